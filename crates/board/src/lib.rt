@@ -1,0 +1,171 @@
+// The kinds of thing that document 01 speaks of, declared once: the definitions in specs/ and the code of the crates
+// above use the same types. In document 01's order. There is no code here.
+
+// ---- what the board holds
+
+// Ticket, place and unit are three kinds of number that must never be taken for one another. (A place is how the code
+// stores a request; it comes with the code.)
+pub struct Ticket(pub u32);
+
+// Target x 8 + LUN, 0 to 63.
+pub struct Unit(pub u8);
+
+// The 12 CDB bytes as three little-endian words, since an enum (a send's answer) can't hold an array.
+pub struct Cdb {
+    pub first: u32,
+    pub second: u32,
+    pub third: u32,
+}
+
+// A live request: its ticket, and what the board needs of the block.
+pub struct Request {
+    pub ticket: Ticket,
+    pub unit: Unit,
+    pub address: u32,
+    pub callback: u32,
+    // The callback is wanted: its disable flag is clear.
+    pub wanted: bool,
+    // Data length.
+    pub length: u32,
+    // Sense length.
+    pub sense: u8,
+    // Autosense is not disabled.
+    pub autosense: bool,
+    pub timeout: u32,
+    pub cdb: Cdb,
+}
+
+// An active request: the clock when it was sent, and its two marks, that the host asked for its abort and that it is
+// overdue.
+pub struct Active {
+    pub request: Request,
+    pub start: u32,
+    pub asked: bool,
+    pub overdue: bool,
+}
+
+// What a block is told when its request is handed back: the status byte, the SCSI status, the autosense residual and
+// the residual.
+pub struct Told {
+    pub status: u8,
+    pub scsi: u8,
+    pub unsensed: u8,
+    pub residual: i32,
+}
+
+// A finished request.
+pub struct Finished {
+    pub request: Request,
+    pub told: Told,
+}
+
+// ---- sending
+
+// What the rotation finds: the first eligible unit with how many units were looked at, or none.
+pub enum Rotation {
+    Found { unit: Unit, looked: u8 },
+    Nobody,
+}
+
+// ---- how a request ends
+
+// What became of the sense: a byte count, failed, or none.
+pub enum Sense {
+    Bytes(u8),
+    Failed,
+    None,
+}
+
+// What the adapter reports on a ticket.
+pub enum Event {
+    AbortDone,
+    SelectionTimeout,
+    Parity,
+    BusFree,
+    Phase,
+    AdapterError,
+    Complete { status: u8, sense: Sense },
+}
+
+// What an end is made of, before it is known whether its unit is frozen: the base status, the SCSI status, whether sense
+// was looked at and at least 1 byte came, the autosense residual, the residual.
+pub struct End {
+    pub base: u8,
+    pub scsi: u8,
+    pub sensed: bool,
+    pub unsensed: u8,
+    pub residual: i32,
+}
+
+// What an event makes of an active request: its end, or refusal 102.
+pub enum Ending {
+    Ended(End),
+    Refused,
+}
+
+// ---- the answers, one enum for each call that has more than one kind of answer
+
+// Why taking in says no, by the names that source document 000 (Table 5) has for the numbers.
+pub enum Refusal {
+    CamBusy,
+    InvalidRequest,
+    InvalidPath,
+    LengthInadequate,
+    CannotProvide,
+}
+
+// Taking a request in.
+pub enum TakingIn {
+    Taken(Ticket),
+    Refused(Refusal),
+}
+
+// Sending.
+pub enum Sending {
+    Sent {
+        ticket: Ticket,
+        unit: Unit,
+        cdb: Cdb,
+        looked: u8,
+    },
+    Nothing {
+        looked: u8,
+    },
+}
+
+// An event on a ticket.
+pub enum Reporting {
+    Ended,
+    NotActive,
+    OutOfRange,
+}
+
+// Abort.
+pub enum Aborting {
+    Done,
+    UnableToAbort,
+}
+
+// Freeze, release: 1 if the unit was frozen before, else 0.
+pub enum Freezing {
+    Before(u8),
+    NoSuchUnit,
+}
+
+// A look at the finished line.
+pub enum Looking {
+    First {
+        ticket: Ticket,
+        address: u32,
+        callback: u32,
+        wanted: bool,
+    },
+    Empty,
+}
+
+// Hand back.
+pub enum HandingBack {
+    Handed { ticket: Ticket, told: Told },
+    Empty,
+    NotItsBlock,
+}
