@@ -1,2 +1,12 @@
 pub mod Open
 pub mod Bench
+pub mod Choose
+pub mod Weigh
+pub mod Freezes
+pub mod Moves
+pub mod Kept
+pub mod Account
+pub mod Quiet
+pub mod Picks
+pub mod Demand3
+pub mod Limits

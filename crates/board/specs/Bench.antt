@@ -38,7 +38,6 @@ given-by-definitions c =
 
 -- 88 bytes: address 1000h, length 88, function 01h, unit 0, CDB length 6, all else 0
 unfoldable pub plain : List ℕ
-unfolding bytes4
 plain = sets (sets (sets (replicate 88 0) 0 (bytes4 0x1000)) 4 (88 ∷ 0 ∷ 0x01 ∷ [])) 45 (6 ∷ [])
 
 abbrev pub addressed : ℕ → List ℕ

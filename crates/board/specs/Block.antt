@@ -88,7 +88,6 @@ fields s = record {
 
 -- the 12 CDB bytes
 unfoldable pub cdb-bytes : Cdb → List ℕ
-unfolding bytes4
 cdb-bytes c = bytes4 (c .first) ++ (bytes4 (c .second) ++ bytes4 (c .third))
 
 -- what the board needs of the block
@@ -114,5 +113,4 @@ with-status n s = if length s <? 8 then s else set s 7 n
 
 -- a hand-back writes bytes 7, 52, 53 and 56 to 59 and no others
 unfoldable pub with-told : Told → List ℕ → List ℕ
-unfolding word bytes4
 with-told x s = sets (set (set (set s 7 (x .status)) 52 (x .scsi)) 53 (x .unsensed)) 56 (bytes4 (word (x .residual)))

@@ -52,7 +52,6 @@ module _ {A : Type 0} (ticket-of : A → Ticket) where
   insert y (x ∷ xs) = if ticket-of y .0 <? ticket-of x .0 then y ∷ x ∷ xs else x ∷ insert y xs
 
   unfoldable pub by-ticket : List A → List A
-  unfolding insert
   by-ticket [] = []
   by-ticket (x ∷ xs) = insert x (by-ticket xs)
 

@@ -79,7 +79,6 @@ pub data Base : Type 0 where
 -- other four; complete, more bytes moved than asked; SCSI status 02h, sense looked at, failed or 0 bytes; SCSI status 00h
 -- or 04h; any other SCSI status.
 unfoldable pub base-status : Active → Event → (moved : ℕ) → Base
-unfolding first-that-applies
 base-status a e moved =
     first-that-applies (
     (is-abort-done e && a .asked ⇒ base 0x02)

@@ -9,3 +9,7 @@ pub mod Sending
 pub mod Ending
 pub mod Calls
 pub mod Bench
+pub mod Demand3
+pub mod Limits
+pub mod Refusals
+pub mod Looked

@@ -44,7 +44,6 @@ checks-of-board b f =
 
 -- Checks, first that applies.
 unfoldable pub verdict : Board → List ℕ → Verdict
-unfolding first-that-applies
 verdict b s = first-that-applies (checks-of-block (length s) (fields s) ++ checks-of-board b (fields s)) accept
 
 -- The request joins its unit's waiting order: at the end, or at the front if the SIM Queue Priority flag asks for the head.

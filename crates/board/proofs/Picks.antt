@@ -1,0 +1,108 @@
+-- A send does not see the frozen units' waiting requests; a freeze and a release alter nothing else. Assumes nothing.
+use mathlib.Core.Path.{_≡_, refl, sym, _∙_, ap, subst, fun-ext}
+use mathlib.Core.Logic.{_≢_}
+use mathlib.Core.Bool.{Bool, true, false, not, _&&_}
+use mathlib.Core.List.{List, [], _∷_, _++_}
+use Prim.Native.Nat.{ℕ}
+use lib.ListN.{length}
+use Rattle.board.specs.Types.{Unit, Request, Rotation, Found, Nobody}
+use Rattle.board.specs.Plain.{if_then_else_, _<?_, _≤?_}
+use Rattle.board.specs.Board.{same-unit, at, units, most-active, Freeze, one-freeze, one-release, freeze-number, Board, frozen, with-freeze}
+use Rattle.board.specs.Answers.{refused, nothing, before, Stepped, says}
+use Rattle.board.specs.Sending.{waits, busy, eligible, rotation, sent-first, sent-by, sending}
+use Rattle.board.specs.Calls.{freezing, send, freeze, release, step}
+use Rattle.board.specs.Demand3.{Same-but-freeze, thinned}
+use Rattle.board.proofs.Choose.{if-ind, both-ifs, same, one-unit, at-other}
+use Rattle.board.proofs.Moves.{Found-able, found-able}
+use Rattle.board.proofs.Quiet.{not-frozen}
+
+-- ---- freeze and release
+
+alone : (change : Freeze → Freeze) (b : Board) (u : Unit) → Same-but-freeze u b (freezing change b u .board)
+unfolding freezing
+alone change b u =
+    if-ind (λ s. Same-but-freeze u b (s .board)) (u .0 <? units) (says (with-freeze u (change (b .freezes u)) b) (before (freeze-number (b .freezes u)))) (says b (refused 103))
+    (λ e. record {
+      waiting = λ v. refl;
+      active = refl;
+      finished = refl;
+      freezes = λ v k. at-other u v (change (b .freezes u)) (b .freezes) k;
+      clock = refl;
+      mark = refl;
+      given = refl;
+    })
+    (λ e. record { waiting = λ v. refl; active = refl; finished = refl; freezes = λ v k. refl; clock = refl; mark = refl; given = refl })
+
+pub freeze-alone : (b : Board) (u : Unit) → Same-but-freeze u b (step b (freeze u) .board)
+unfolding step
+freeze-alone = alone one-freeze
+
+pub release-alone : (b : Board) (u : Unit) → Same-but-freeze u b (step b (release u) .board)
+unfolding step
+release-alone = alone one-release
+
+-- ---- a send
+
+thinned-eligible : (b : Board) (u : Unit) → eligible (thinned b) u ≡ eligible b u
+unfolding eligible thinned
+thinned-eligible b u = ap (λ x. x && not (busy u (b .active))) (go (frozen b u))
+  where
+    unseen : (w : Bool) → (w && false) ≡ false
+    unseen true = refl
+    unseen false = refl
+
+    go : (x : Bool) → (waits (if x then [] else b .waiting u) && not x) ≡ (waits (b .waiting u) && not x)
+    go true = sym (unseen (waits (b .waiting u)))
+    go false = refl
+
+thinned-waiting : (b : Board) (u : Unit) → frozen b u ≡ false → thinned b .waiting u ≡ b .waiting u
+unfolding thinned
+thinned-waiting b u e = rw e
+
+-- the same answer, and the board afterwards is the thinned one
+record Same-pick (b : Board) (s r : Stepped) : Type 0 where
+  answer : s .answer ≡ r .answer
+  board : s .board ≡ thinned (r .board)
+
+-- one unit's order changed, before or after the thinning
+thinned-at : (b : Board) (u : Unit) (l : List Request) → frozen b u ≡ false → at u l (thinned b .waiting) ≡ (λ v. if frozen b v then [] else at u l (b .waiting) v)
+unfolding thinned
+thinned-at b u l e = fun-ext (λ v. go v (same-unit v u) (λ j. ap (frozen b) (one-unit (same j)) ∙ e))
+  where
+    go : (v : Unit) (c : Bool) → (c ≡ true → frozen b v ≡ false)
+        → (if c then l else (if frozen b v then [] else b .waiting v)) ≡ (if frozen b v then [] else (if c then l else b .waiting v))
+    go v true k = rw (k refl)
+    go v false k = refl
+
+same-first : (b : Board) (u : Unit) (n : ℕ) (l : List Request) → frozen b u ≡ false → Same-pick b (sent-first (thinned b) u n l) (sent-first b u n l)
+unfolding sent-first thinned
+same-first b u n [] e = record { answer = refl; board = refl }
+same-first b u n (q ∷ more) e = record {
+  answer = refl;
+  board = ap (λ w. record { waiting = w; active = b .active ++ (record { request = q; start = b .clock; asked = false; overdue = false } ∷ []); finished = b .finished; freezes = b .freezes; clock = b .clock; mark = u; given = b .given }) (thinned-at b u more e);
+}
+
+same-by : (b : Board) (r : Rotation) → Found-able (eligible b) r → Same-pick b (sent-by (thinned b) r) (sent-by b r)
+unfolding sent-by
+same-by b Nobody k = record { answer = refl; board = refl }
+same-by b (Found u n) k =
+    let e = not-frozen b u (k .1) in
+    subst (λ l. Same-pick b (sent-first (thinned b) u n l) (sent-first b u n (b .waiting u))) (sym (thinned-waiting b u e)) (same-first b u n (b .waiting u) e)
+
+same-pick-sending : (b : Board) → Same-pick b (sending (thinned b)) (sending b)
+unfolding sending thinned
+same-pick-sending b =
+    both-ifs (Same-pick b) (most-active ≤? length (b .active))
+    (says (thinned b) (nothing 0)) (sent-by (thinned b) (rotation (eligible (thinned b)) (b .mark) units 1))
+    (says b (nothing 0)) (sent-by b (rotation (eligible b) (b .mark) units 1))
+    record { answer = refl; board = refl }
+    (subst (λ able. Same-pick b (sent-by (thinned b) (rotation able (b .mark) units 1)) (sent-by b (rotation (eligible b) (b .mark) units 1))) (sym (fun-ext (thinned-eligible b)))
+    (same-by b (rotation (eligible b) (b .mark) units 1) (found-able (eligible b) (b .mark) units 1)))
+
+pub same-answer : (b : Board) → step (thinned b) send .answer ≡ step b send .answer
+unfolding step
+same-answer b = same-pick-sending b .answer
+
+pub same-pick : (b : Board) → step (thinned b) send .board ≡ thinned (step b send .board)
+unfolding step
+same-pick b = same-pick-sending b .board

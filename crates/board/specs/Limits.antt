@@ -1,0 +1,31 @@
+-- What holds of every board that calls make of a fresh one. proofs/Limits.antt proves it. Assumes nothing.
+use mathlib.Core.Path.{_≡_}
+use mathlib.Core.List.{List, []}
+use Prim.Native.Nat.{ℕ, _≤_, _<_, _^_}
+use lib.ListN.{length}
+use Rattle.board.specs.Types.{Ticket, Unit, Request}
+use Rattle.board.specs.Plain.{_=?_, count, Each}
+use Rattle.board.specs.Board.{same-unit, same-ticket, units, places, most-active, last-ticket, Board, live}
+
+-- a live request: its ticket is from 1 to the last given; its target is at most 6; its data length is at most FFFFFFh
+pub record Fits (b : Board) (q : Request) : Type 0 where
+  pub ticket-from-1 : 1 ≤ q .ticket .0
+  pub ticket-given : q .ticket .0 ≤ b .given
+  pub unit : q .unit .0 < 56
+  pub length : q .length ≤ 0xFFFFFF
+
+pub record Limits (b : Board) : Type 0 where
+  -- at most 32 live
+  pub within : length (live b) ≤ places
+  -- at most 8 active, at most one per unit
+  pub at-once : length (b .active) ≤ most-active
+  pub one-per-unit : (u : Unit) → count (λ a. same-unit (a .request .unit) u) (b .active) ≤ 1
+  pub mark : b .mark .0 < units
+  pub clock : b .clock < 2 ^ 32
+  pub given : b .given ≤ last-ticket
+  -- addresses of live requests are distinct, and so are their tickets
+  pub addresses : (address : ℕ) → count (λ q. q .address =? address) (live b) ≤ 1
+  pub tickets : (t : Ticket) → count (λ q. same-ticket (q .ticket) t) (live b) ≤ 1
+  pub each : Each (Fits b) (live b)
+  -- nothing waits on a number that is no unit
+  pub nowhere-else : (u : Unit) → units ≤ u .0 → b .waiting u ≡ []
