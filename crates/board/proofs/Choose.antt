@@ -15,6 +15,11 @@ pub if-ind : {A : Type 0} (P : A → Type 0) (c : Bool) (x y : A) → (c ≡ tru
 if-ind P true x y f g = f refl
 if-ind P false x y f g = g refl
 
+-- to show something, show it where a test passes and where it fails
+pub by-cases : {P : Type 0} (c : Bool) → (c ≡ true → P) → (c ≡ false → P) → P
+by-cases true f g = f refl
+by-cases false f g = g refl
+
 -- two choices by one test
 pub both-ifs : {A B : Type 0} (P : A → B → Type 0) (c : Bool) (x y : A) (z w : B) → P x z → P y w → P (if c then x else y) (if c then z else w)
 both-ifs P true x y z w f g = f
@@ -75,6 +80,9 @@ below {m} {n} e = ltb→lt m n (is-true e)
 pub not-below : {m n : ℕ} → (m <? n) ≡ false → n ≤ m
 not-below {m} {n} e = nltb→le m n (is-false e)
 
+pub when-below : {m n : ℕ} → m < n → (m <? n) ≡ true
+when-below {m} {n} h = by-cases (m <? n) (λ e. e) (λ e. let p : n ≤ m = not-below e in absurd (omega arith))
+
 pub unless-below : {m n : ℕ} → n ≤ m → (m <? n) ≡ false
 unless-below {m} {n} h = refute (m <? n) (λ e. let p : m < n = below e in absurd (omega arith))
 
@@ -83,6 +91,12 @@ at-most {m} {n} e = leb→le m n (is-true e)
 
 pub not-at-most : {m n : ℕ} → (m ≤? n) ≡ false → n < m
 not-at-most {m} {n} e = nleb→lt m n (is-false e)
+
+pub when-at-most : {m n : ℕ} → m ≤ n → (m ≤? n) ≡ true
+when-at-most {m} {n} h = by-cases (m ≤? n) (λ e. e) (λ e. let p : n < m = not-at-most e in absurd (omega arith))
+
+pub unless-at-most : {m n : ℕ} → n < m → (m ≤? n) ≡ false
+unless-at-most {m} {n} h = refute (m ≤? n) (λ e. let p : m ≤ n = at-most e in absurd (omega arith))
 
 -- ---- units and tickets
 

@@ -1,6 +1,6 @@
 -- Demand 3, of the definitions. Assumes nothing.
 use Rattle.board.specs.Demand3.{Demand3}
-use Rattle.board.proofs.Account.{accounted}
+use Rattle.board.proofs.Places.{accounted}
 use Rattle.board.proofs.Quiet.{quiet}
 use Rattle.board.proofs.Picks.{freeze-alone, release-alone, same-answer, same-pick}
 

@@ -1,11 +1,16 @@
+-- What is proved of the definitions. Each file says what it shows; those below use those above.
 pub mod Open
 pub mod Bench
 pub mod Choose
+pub mod Block
+pub mod Answers
+pub mod Refusals
+pub mod Looked
 pub mod Weigh
 pub mod Freezes
 pub mod Moves
 pub mod Kept
-pub mod Account
+pub mod Places
 pub mod Quiet
 pub mod Picks
 pub mod Demand3

@@ -22,7 +22,7 @@ use Rattle.board.proofs.Choose.{if-ind, true≢false, refute, neither, 
 use Rattle.board.proofs.Weigh.{weigh, one, weigh-append, weigh-map, weigh-same, weigh-at-most, weigh-length, weigh-count, weigh-none, each-other, weigh-without}
 use Rattle.board.proofs.Moves.{Home, Joins, Goes, Move, stays, joins, goes, ends, aborts, marks, freezes, releases, resets, hands-back, moves}
 use Rattle.board.proofs.Kept.{mass, live-mass, Came, nobody-came, one-came, Kept, kept, all-ended-keeps}
-use Rattle.board.proofs.Account.{fresh-mass, fresh-home}
+use Rattle.board.proofs.Places.{fresh-mass, fresh-home}
 
 -- ---- what a move does to the active requests
 
@@ -172,7 +172,7 @@ module _ (b d : Board) (k : Limited b) where
   ticket-new : (t : Ticket) → b .given < t .0 → mass (one (has-ticket t)) b ≡ 0
   ticket-new t h =
       let p = mass-at-most (one (has-ticket t)) (one (misfit b)) (λ q. implied (has-ticket t q) (misfit b q)
-          (λ e. refute (has-ticket t q) (λ s. let r : q .ticket .0 ≡ t .0 = same s in let f = fits b q e .ticket-given in absurd (omega arith)))) b in
+      (λ e. refute (has-ticket t q) (λ s. let r : q .ticket .0 ≡ t .0 = same s in let f = fits b q e .ticket-given in absurd (omega arith)))) b in
       let z = k .fitting in
       omega arith
 
@@ -198,7 +198,7 @@ module _ (b d : Board) (k : Limited b) where
   fitting-kept : (x y : ℕ) → b .given ≤ d .given → mass (one (misfit d)) d + x ≡ mass (one (misfit d)) b + y → y ≡ 0 → mass (one (misfit d)) d ≡ 0
   fitting-kept x y g e n =
       let p = mass-at-most (one (misfit d)) (one (misfit b)) (λ q. implied (misfit d q) (misfit b q)
-          (λ e. let f = fits b q e in let t = f .ticket-given in no-misfit d q (record { ticket-from-1 = f .ticket-from-1; ticket-given = omega arith; unit = f .unit; length = f .length }))) b in
+      (λ e. let f = fits b q e in let t = f .ticket-given in no-misfit d q (record { ticket-from-1 = f .ticket-from-1; ticket-given = omega arith; unit = f .unit; length = f .length }))) b in
       let z = k .fitting in
       omega arith
 

@@ -122,7 +122,7 @@ pub found-able : (able : Unit → Bool) (mark : Unit) (left n : ℕ) → Found-a
 unfolding rotation
 found-able able mark zero n = tt
 found-able able mark (suc left) n =
-    if-ind (Found-able able) (able (after mark n)) (Found (after mark n) n) (rotation able mark left (suc n))
+    if-ind (Found-able able) (able (after mark n)) _ (rotation able mark left (suc n))
     (λ e. (mod-lt (mark .0 + n) (lit< tt), e)) (λ e. found-able able mark left (suc n))
 
 move-first : (b : Board) (u : Unit) (n : ℕ) (l : List Request) → b .waiting u ≡ l → Goes b u → Moved b send (sent-first b u n l)

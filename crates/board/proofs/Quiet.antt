@@ -20,7 +20,7 @@ use Rattle.board.proofs.Freezes.{one-freeze-frozen}
 use Rattle.board.proofs.Moves.{Home, Goes, Idle, idle-refused, idle-nothing, idle-done, idle-before, idle-time, idle-first, idle-empty, Move, stays, joins, goes, ends, aborts, marks, freezes, releases, resets, hands-back, Moved, moves}
 use Rattle.board.proofs.Kept.{kept}
 use Rattle.board.proofs.Weigh.{any-by-ticket}
-use Rattle.board.proofs.Account.{kept-step, accounted}
+use Rattle.board.proofs.Places.{kept-step, accounted}
 
 -- ---- an end never unfreezes a unit, and a bad one freezes its own
 
@@ -120,9 +120,9 @@ silent (stays a i) u h = not-sent u a (idle-not-sent i)
 silent (joins q front j) u h = not-sent u _ refl
 silent {b} (goes v q more n g e) u h =
     λ t cdb k s.
-        let p : v ≡ u = cc in
-        let f : frozen b v ≡ false = not-frozen b v (g .able) in
-        true≢false (sym h ∙ (ap (frozen b) (sym p) ∙ f))
+    let p : v ≡ u = cc in
+    let f : frozen b v ≡ false = not-frozen b v (g .able) in
+    true≢false (sym h ∙ (ap (frozen b) (sym p) ∙ f))
 silent (ends a e f) u h = not-sent u _ refl
 silent (aborts q v f) u h = not-sent u _ refl
 silent (marks f e now l a i) u h = not-sent u a (idle-not-sent i)

@@ -77,10 +77,9 @@ pub data Base : Type 0 where
 
 -- Rows apply in order: abort done, host asked; overdue; neither; any other, request overdue; selection timeout and the
 -- other four; complete, more bytes moved than asked; SCSI status 02h, sense looked at, failed or 0 bytes; SCSI status 00h
--- or 04h; any other SCSI status.
-unfoldable pub base-status : Active → Event → (moved : ℕ) → Base
-base-status a e moved =
-    first-that-applies (
+-- or 04h; ..
+unfoldable pub table-of-ends : Active → Event → (moved : ℕ) → List (Row Base)
+table-of-ends a e moved =
     (is-abort-done e && a .asked ⇒ base 0x02)
     ∷ (is-abort-done e && a .overdue ⇒ base 0x0B)
     ∷ (is-abort-done e ⇒ refusal-102)
@@ -90,7 +89,10 @@ base-status a e moved =
     ∷ (sense-looked-at (a .request) e && sense-bytes e =? 0 ⇒ base 0x10)
     ∷ (scsi-status e =? 0x00 || scsi-status e =? 0x04 ⇒ base 0x01)
     ∷ []
-    ) (base 0x04)
+
+-- .. complete, any other SCSI status: 04h.
+unfoldable pub base-status : Active → Event → (moved : ℕ) → Base
+base-status a e moved = first-that-applies (table-of-ends a e moved) (base 0x04)
 
 -- ---- an end
 
