@@ -1,7 +1,7 @@
 -- Only one answer of the code says a given answer of the definitions: a promise that fixes what the answer says fixes the
 -- answer. Assumes nothing.
 use mathlib.Core.Path.{_≡_, refl, ap}
-use mathlib.Core.Bool.{Bool, false}
+use mathlib.Core.Bool.{false}
 use Prim.Native.Nat.{ℕ}
 use Rattle.board.specs.Types.{Refusal, CamBusy, InvalidRequest, InvalidPath, LengthInadequate, CannotProvide, TakingIn, Sending, Reporting, Aborting, Freezing, Looking, HandingBack}
 use Rattle.board.specs.declared.TakingIn.the-variants as taking-in
@@ -12,7 +12,7 @@ use Rattle.board.specs.declared.Freezing.the-variants as freezing
 use Rattle.board.specs.declared.Looking.the-variants as looking
 use Rattle.board.specs.declared.HandingBack.the-variants as handing-back
 use Rattle.board.specs.Plain.{if_then_else_, _=?_}
-use Rattle.board.specs.Answers.{Answer, refused, number, taking-in-says, sending-says, reporting-says, aborting-says, freezing-says, looking-says, handing-back-says}
+use Rattle.board.specs.Answers.{refused, number, taking-in-says, sending-says, reporting-says, aborting-says, freezing-says, looking-says, handing-back-says}
 use Rattle.board.proofs.Choose.{differ}
 
 -- two refusals with different numbers are not the same answer
@@ -48,13 +48,13 @@ one-sending (sending.Nothing n) (sending.Nothing n') e = cc
 pub one-reporting : (r s : Reporting) → reporting-says r ≡ reporting-says s → r ≡ s
 one-reporting reporting.Ended reporting.Ended e = refl
 one-reporting reporting.Ended reporting.NotActive e = cc
-one-reporting reporting.Ended reporting.OutOfRange e = cc
+one-reporting reporting.Ended reporting.Implausible e = cc
 one-reporting reporting.NotActive reporting.Ended e = cc
 one-reporting reporting.NotActive reporting.NotActive e = refl
-one-reporting reporting.NotActive reporting.OutOfRange e = apart refl e
-one-reporting reporting.OutOfRange reporting.Ended e = cc
-one-reporting reporting.OutOfRange reporting.NotActive e = apart refl e
-one-reporting reporting.OutOfRange reporting.OutOfRange e = refl
+one-reporting reporting.NotActive reporting.Implausible e = apart refl e
+one-reporting reporting.Implausible reporting.Ended e = cc
+one-reporting reporting.Implausible reporting.NotActive e = apart refl e
+one-reporting reporting.Implausible reporting.Implausible e = refl
 
 pub one-aborting : (r s : Aborting) → aborting-says r ≡ aborting-says s → r ≡ s
 one-aborting aborting.Done aborting.Done e = refl

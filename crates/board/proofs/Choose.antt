@@ -2,13 +2,13 @@
 use mathlib.Core.Path.{_≡_, refl, sym, ap, subst}
 use mathlib.Core.Logic.{_≢_}
 use mathlib.Core.Bool.{Bool, true, false, not, _||_, _&&_}
-use mathlib.Core.Option.{Option, none, some}
+use mathlib.Core.Option.{none, some}
 use Prim.Native.Nat.{ℕ, _≤_, _<_}
 use native.Mathlib.Omega.{arith}
 use lib.Dec.{T, eqb, eqb→eq, eqb-refl, T-not, ltb→lt, nltb→le, leb→le, nleb→lt}
 use Rattle.board.specs.Types.{Ticket, Unit}
 use Rattle.board.specs.Plain.{if_then_else_, _=?_, _<?_, _≤?_}
-use Rattle.board.specs.Board.{the-unit, the-ticket, same-unit, same-ticket, at}
+use Rattle.board.specs.Board.{the-unit, the-ticket, same-unit, at}
 
 -- to show something of a choice, show it of each side, with what the test says there
 pub if-ind : {A : Type 0} (P : A → Type 0) (c : Bool) (x y : A) → (c ≡ true → P x) → (c ≡ false → P y) → P (if c then x else y)

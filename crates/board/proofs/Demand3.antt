@@ -2,7 +2,8 @@
 use Rattle.board.specs.Demand3.{Demand3}
 use Rattle.board.proofs.Places.{accounted}
 use Rattle.board.proofs.Quiet.{quiet}
-use Rattle.board.proofs.Picks.{freeze-alone, release-alone, same-answer, same-pick}
+use Rattle.board.proofs.Records.{freeze-alone, release-alone, event-alone, reset-alone}
+use Rattle.board.proofs.Picks.{same-answer, same-pick}
 
 pub demand3 : Demand3
 demand3 = record {
@@ -10,6 +11,8 @@ demand3 = record {
   quiet = quiet;
   freeze-alone = freeze-alone;
   release-alone = release-alone;
+  event-alone = event-alone;
+  reset-alone = reset-alone;
   same-answer = same-answer;
   same-pick = same-pick;
 }

@@ -9,15 +9,16 @@ use native.Mathlib.Omega.{arith}
 use lib.ListN.{length}
 use Rattle.board.specs.Types.{Unit, Request, Active, Finished, End}
 use Rattle.board.specs.Plain.{if_then_else_, Each}
-use Rattle.board.specs.Board.{same-unit, at, units, find, without, by-ticket, ticket-of-active, Board, frozen, all-waiting, live, with-waiting, with-active, with-finished, with-freeze, with-clock}
-use Rattle.board.specs.Answers.{Answer, taken, sent, done, before, handed}
+use Rattle.board.specs.Board.{same-unit, at, units, find, without, by-ticket, ticket-of-active, Board, all-waiting, live, with-active, with-finished}
+use Rattle.board.specs.Answers.{Answer, taken, sent, done, handed}
 use Rattle.board.specs.TakingIn.{joined}
+use Rattle.board.specs.Sending.{sent-from}
 use Rattle.board.specs.Ending.{end-unmoved, told, ended-active}
 use Rattle.board.specs.Calls.{ended-waiting, all-ended, Call}
 use Rattle.board.specs.Demand3.{given-by, handed-by}
 use Rattle.board.proofs.Choose.{if-ind, same, one-unit}
 use Rattle.board.proofs.Weigh.{weigh, weigh-append, weigh-map, weigh-same, weigh-at, weigh-without, weigh-by-ticket, each-append, each-without}
-use Rattle.board.proofs.Moves.{Home, Joins, Goes, Idle, idle-refused, idle-nothing, idle-done, idle-before, idle-time, idle-first, idle-empty, sent-from, ended-from, reset-from, Move, stays, joins, goes, ends, aborts, marks, freezes, releases, resets, hands-back}
+use Rattle.board.proofs.Moves.{Home, Joins, Idle, idle-refused, idle-nothing, idle-done, idle-before, idle-time, idle-first, idle-empty, ended-from, reset-from, Move, stays, joins, goes, ends, aborts, marks, freezes, releases, resets, hands-back}
 
 -- ---- the weight of a board's requests
 
@@ -219,9 +220,9 @@ unfolding given-by handed-by
 kept {b} (stays a i) h = kept-steady b a b (λ g. refl) h (idle-gives i) (idle-hands i) refl
 kept {b} (joins q front j) h = kept-joins b q front j h
 kept {b} (goes u q more n g e) h = kept-goes b u q more n (g .unit) e h
-kept {b} (ends a e k) h = kept-ends b a e k h
+kept {b} (ends a e k r) h = kept-ends b a e k h
 kept {b} (aborts q u k) h = kept-aborts b q u k h
-kept {b} (marks f e now k a i) h =
+kept {b} (marks f e s now k a i) h =
     kept-steady b a _
     (λ g. let p = weigh-map (λ x. g (x .request)) f (b .active) in
     let q = weigh-same (λ x. g (f x .request)) (λ x. g (x .request)) (λ x. ap g (e x)) (b .active) in

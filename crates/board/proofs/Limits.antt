@@ -1,27 +1,25 @@
 -- The limits hold of every board that calls make of a fresh one. Assumes nothing.
 use mathlib.Core.Path.{_≡_, refl, sym, _∙_, ap, subst}
-use mathlib.Core.Logic.{_≢_}
 use mathlib.Core.Bool.{Bool, true, false, not, _||_, _&&_}
-use mathlib.Core.Option.{some}
-use mathlib.Core.List.{List, [], _∷_, _++_, map}
+use mathlib.Core.List.{List, [], _∷_, _++_}
 use Prim.Native.Nat.{ℕ, suc, _+_, _^_, _≤_, _<_}
 use native.Mathlib.Nat.{le-refl}
 use native.Mathlib.Omega.{arith}
 use lib.Dec.{lit<}
 use lib.ListN.{length}
-use Rattle.board.specs.Types.{Ticket, Unit, Request, Active}
-use Rattle.board.specs.Plain.{if_then_else_, _=?_, _<?_, _≤?_, Each}
-use Rattle.board.specs.Board.{same-unit, same-ticket, at, units, by-ticket, ticket-of-active, places, most-active, last-ticket, Board, fresh, frozen, live, with-active}
+use Rattle.board.specs.Types.{Ticket, Unit, Request, Active, Finished, End}
+use Rattle.board.specs.Plain.{if_then_else_, _=?_, _<?_, Each}
+use Rattle.board.specs.Board.{same-unit, same-ticket, at, units, by-ticket, ticket-of-active, data-length, places, most-active, last-ticket, Board, fresh, frozen, live, with-active}
 use Rattle.board.specs.Answers.{Answer}
 use Rattle.board.specs.TakingIn.{address-held, joined}
 use Rattle.board.specs.Sending.{waits, busy, eligible}
-use Rattle.board.specs.Ending.{ended-active}
-use Rattle.board.specs.Calls.{ended-waiting, Call, step, run}
-use Rattle.board.specs.Limits.{Fits, Limits}
-use Rattle.board.proofs.Choose.{if-ind, true≢false, refute, neither, both, not-true, same, not-below, unless-below, one-unit, at-other}
-use Rattle.board.proofs.Weigh.{weigh, one, weigh-append, weigh-map, weigh-same, weigh-at-most, weigh-length, weigh-count, weigh-none, each-other, weigh-without}
+use Rattle.board.specs.Ending.{end-unmoved, told, ended-active}
+use Rattle.board.specs.Calls.{ended-waiting, all-ended, Call, step, run}
+use Rattle.board.specs.Limits.{Fits, In-range, After-any-calls}
+use Rattle.board.proofs.Choose.{true≢false, refute, neither, both, not-true, same, not-below, unless-below, one-unit, at-other}
+use Rattle.board.proofs.Weigh.{weigh, one, weigh-append, weigh-map, weigh-same, weigh-at-most, weigh-length, weigh-count, weigh-none, weigh-at, each-other, each-append, each-map, find-each, weigh-without, each-without, each-by-ticket}
 use Rattle.board.proofs.Moves.{Home, Joins, Goes, Move, stays, joins, goes, ends, aborts, marks, freezes, releases, resets, hands-back, moves}
-use Rattle.board.proofs.Kept.{mass, live-mass, Came, nobody-came, one-came, Kept, kept, all-ended-keeps}
+use Rattle.board.proofs.Kept.{mass, live-mass, Came, nobody-came, one-came, kept, all-ended-keeps}
 use Rattle.board.proofs.Places.{fresh-mass, fresh-home}
 
 -- ---- what a move does to the active requests
@@ -50,9 +48,9 @@ active-kept {b} (goes u q more n k e) h =
       starter = one-started q (subst (Goes b) (sym home) k);
       most = λ g. let p = weigh-append (λ x. g (x .request)) (b .active) (record { request = q; start = b .clock; asked = false; overdue = false } ∷ []) in omega arith;
     }
-active-kept {b} (ends a e k) h = none-new b _ (λ g. let p = weigh-without ticket-of-active (λ x. g (x .request)) (ticket-of-active a) (b .active) a k in omega arith)
+active-kept {b} (ends a e k r) h = none-new b _ (λ g. let p = weigh-without ticket-of-active (λ x. g (x .request)) (ticket-of-active a) (b .active) a k in omega arith)
 active-kept {b} (aborts q u k) h = none-new b _ (λ g. le-refl _)
-active-kept {b} (marks f e now k a i) h =
+active-kept {b} (marks f e s now k a i) h =
     none-new b _ (λ g.
     let p = weigh-map (λ x. g (x .request)) f (b .active) in
     let q = weigh-same (λ x. g (f x .request)) (λ x. g (x .request)) (λ x. ap g (e x)) (b .active) in
@@ -80,15 +78,65 @@ unfolding joined ended-active ended-waiting
 rest-kept (stays a i) r = r
 rest-kept {b} (joins q front j) r = record { mark = r .mark; clock = r .clock; nowhere-else = elsewhere b (q .unit) _ (let p = j .unit in omega arith) r }
 rest-kept {b} (goes u q more n k e) r = record { mark = k .unit; clock = r .clock; nowhere-else = elsewhere b u more (k .unit) r }
-rest-kept (ends a e k) r = record { mark = r .mark; clock = r .clock; nowhere-else = r .nowhere-else }
+rest-kept (ends a e k x) r = record { mark = r .mark; clock = r .clock; nowhere-else = r .nowhere-else }
 rest-kept {b} (aborts q u k) r = record { mark = r .mark; clock = r .clock; nowhere-else = elsewhere b (q .unit) _ u r }
-rest-kept (marks f e now k a i) r = record { mark = r .mark; clock = k (r .clock); nowhere-else = r .nowhere-else }
+rest-kept (marks f e s now k a i) r = record { mark = r .mark; clock = k (r .clock); nowhere-else = r .nowhere-else }
 rest-kept (freezes u) r = record { mark = r .mark; clock = r .clock; nowhere-else = r .nowhere-else }
 rest-kept (releases u e) r = record { mark = r .mark; clock = r .clock; nowhere-else = r .nowhere-else }
 rest-kept {b} resets r =
     let k = all-ended-keeps (by-ticket ticket-of-active (b .active)) (with-active [] b) in
     record { mark = rw (k .mark) (r .mark); clock = rw (k .clock) (r .clock); nowhere-else = λ u h. ap (λ w. w u) (k .waiting) ∙ r .nowhere-else u h }
 rest-kept (hands-back x more e) r = record { mark = r .mark; clock = r .clock; nowhere-else = r .nowhere-else }
+
+-- ---- what a move does to the starts and the residuals
+
+abbrev Starts : Board → Type 0
+Starts b = Each (λ a. a .start < 2 ^ 32) (b .active)
+
+starts-kept : {b : Board} {c : Call} {a : Answer} {d : Board} → Move b c a d → b .clock < 2 ^ 32 → Starts b → Starts d
+unfolding joined ended-active ended-waiting Each
+starts-kept (stays a i) h s = s
+starts-kept (joins q front j) h s = s
+starts-kept {b} (goes u q more n k e) h s = each-append (λ a. a .start < 2 ^ 32) (b .active) _ s (h, tt)
+starts-kept {b} (ends a e k r) h s = each-without ticket-of-active (λ a. a .start < 2 ^ 32) (ticket-of-active a) (b .active) s
+starts-kept (aborts q u k) h s = s
+starts-kept {b} (marks f e t now k a i) h s = each-map (λ a. a .start < 2 ^ 32) f (λ a. a .start < 2 ^ 32) (λ x y. rw (t x) y) (b .active) s
+starts-kept (freezes u) h s = s
+starts-kept (releases u e) h s = s
+starts-kept {b} resets h s = rw (all-ended-keeps (by-ticket ticket-of-active (b .active)) (with-active [] b) .active) tt
+starts-kept (hands-back x more e) h s = s
+
+abbrev Exact-line : List Finished → Type 0
+Exact-line l = Each (λ x. In-range (x .told .residual)) l
+
+abbrev Short : Request → Type 0
+Short q = data-length q ≤ 0xFFFFFF
+
+-- one more at the back of the line
+exact-more : (l : List Finished) (q : Request) (e : End) (f : Bool) → Exact-line l → In-range (e .residual) → Exact-line (l ++ (record { request = q; told = told e f } ∷ []))
+unfolding Each told
+exact-more l q e f h k = each-append (λ x. In-range (x .told .residual)) l _ h (k, tt)
+
+exact-all-ended : (l : List Active) (b : Board) → Each (λ a. Short (a .request)) l → Exact-line (b .finished) → Exact-line (all-ended l b .finished)
+unfolding all-ended ended-active Each end-unmoved
+exact-all-ended [] b s h = h
+exact-all-ended (a ∷ more) b s h =
+    let x = end-unmoved 0x0E (a .request) in
+    exact-all-ended more (ended-active (a .request) x b) (s .1) (exact-more (b .finished) (a .request) x _ h (s .0))
+
+-- where the data lengths of what waits and is active are at most FFFFFFh
+residuals-kept : {b : Board} {c : Call} {a : Answer} {d : Board} → Move b c a d → ((u : Unit) → u .0 < units → Each Short (b .waiting u)) → Each (λ a. Short (a .request)) (b .active) → Exact-line (b .finished) → Exact-line (d .finished)
+unfolding joined ended-active ended-waiting end-unmoved Each
+residuals-kept (stays a i) w s h = h
+residuals-kept (joins q front j) w s h = h
+residuals-kept (goes u q more n k e) w s h = h
+residuals-kept {b} (ends a e k r) w s h = exact-more (b .finished) (a .request) e _ h (r (find-each ticket-of-active (λ x. Short (x .request)) (ticket-of-active a) (b .active) a s k))
+residuals-kept {b} (aborts q u k) w s h = exact-more (b .finished) q (end-unmoved 0x02 q) _ h (find-each (λ r. r .ticket) Short (q .ticket) (b .waiting (q .unit)) q (w (q .unit) u) k)
+residuals-kept (marks f e t now k a i) w s h = h
+residuals-kept (freezes u) w s h = h
+residuals-kept (releases u e) w s h = h
+residuals-kept {b} resets w s h = exact-all-ended (by-ticket ticket-of-active (b .active)) (with-active [] b) (each-by-ticket ticket-of-active (λ a. Short (a .request)) (b .active) s) h
+residuals-kept {b} (hands-back x more e) w s h = (rw e at h) .1
 
 -- ---- the limits in weights
 
@@ -115,6 +163,8 @@ record Limited (b : Board) : Type 0 where
   addresses : (n : ℕ) → mass (one (at-address n)) b ≤ 1
   tickets : (t : Ticket) → mass (one (has-ticket t)) b ≤ 1
   fitting : mass (one (misfit b)) b ≡ 0
+  starts : Starts b
+  residuals : Exact-line (b .finished)
 
 mass-at-most : (g h : Request → ℕ) → ((q : Request) → g q ≤ h q) → (b : Board) → mass g b ≤ mass h b
 mass-at-most g h e b = omega (arith, live-mass g b, live-mass h b, weigh-at-most g h e (live b))
@@ -227,6 +277,15 @@ module _ (b d : Board) (k : Limited b) where
       go true s f = let z = none-active u (subst (λ v. eligible b v ≡ true) (one-unit (same s)) (g .able)) in omega arith
       go false s f = let p = k .one-per-unit u in omega arith
 
+-- what waits and what is active fits
+fits-waiting : (b : Board) → Limited b → (u : Unit) → u .0 < units → Each Short (b .waiting u)
+fits-waiting b l u h =
+    each-other Short (misfit b) (λ q e. fits b q e .length) (b .waiting u)
+    (let p = weigh-at (one (misfit b)) units u [] (b .waiting) h in let z = l .fitting in omega arith)
+
+fits-active : (b : Board) → Limited b → Each (λ a. Short (a .request)) (b .active)
+fits-active b l = each-other (λ a. Short (a .request)) (λ a. misfit b (a .request)) (λ a e. fits b (a .request) e .length) (b .active) (let z = l .fitting in omega arith)
+
 limited-kept : {b : Board} {c : Call} {a : Answer} {d : Board} → Move b c a d → Limited b → Limited d
 limited-kept {b} {d} m l =
     let k = kept m (l .home) in
@@ -240,6 +299,8 @@ limited-kept {b} {d} m l =
       addresses = λ n. addresses-kept b d l (k .came) (k .newcomer) n _ (k .balance (one (at-address n)));
       tickets = λ t. tickets-kept b d l (k .came) (k .newcomer) t _ (k .balance (one (has-ticket t)));
       fitting = fitting-kept b d l _ _ (given-grows b d l (k .came) (k .given)) (k .balance (one (misfit d))) (newcomer-fits b d l (k .came) (k .newcomer) (k .given));
+      starts = starts-kept m (l .rest .clock) (l .starts);
+      residuals = residuals-kept m (fits-waiting b l) (fits-active b l) (l .residuals);
     }
 
 -- ---- after any calls
@@ -250,7 +311,7 @@ limited-run [] b l = l
 limited-run (c ∷ more) b l = limited-run more (step b c .board) (limited-kept (moves b c (l .home)) l)
 
 fresh-limited : Limited fresh
-unfolding fresh
+unfolding fresh Each
 fresh-limited = record {
   home = fresh-home;
   rest = record { mark = lit< tt; clock = lit< tt; nowhere-else = λ u h. refl };
@@ -261,9 +322,11 @@ fresh-limited = record {
   addresses = λ n. omega (arith, fresh-mass (one (at-address n)));
   tickets = λ t. omega (arith, fresh-mass (one (has-ticket t)));
   fitting = fresh-mass (one (misfit fresh));
+  starts = tt;
+  residuals = tt;
 }
 
-pub limits : (calls : List Call) → Limits (run fresh calls .board)
+pub limits : After-any-calls
 limits calls =
     let b = run fresh calls .board in
     let l = limited-run calls fresh fresh-limited in record {
@@ -276,5 +339,7 @@ limits calls =
       addresses = λ n. rw weigh-count (omega (arith, live-mass (one (at-address n)) b, l .addresses n));
       tickets = λ t. rw weigh-count (omega (arith, live-mass (one (has-ticket t)) b, l .tickets t));
       each = each-other (Fits b) (misfit b) (fits b) (live b) (live-mass (one (misfit b)) b ∙ l .fitting);
+      starts = l .starts;
+      residuals = l .residuals;
       nowhere-else = l .rest .nowhere-else;
     }

@@ -1,25 +1,26 @@
 -- Every call makes one of ten moves on the board. What is to be shown of all calls is then shown of the ten moves, which is
 -- what the files after this one do. Assumes nothing.
 use mathlib.Core.Path.{_≡_, refl, sym, subst, subst₂}
-use mathlib.Core.Bool.{Bool, true, false, not, _||_}
+use mathlib.Core.Bool.{Bool, true, false, cond, _&&_}
 use mathlib.Core.Option.{Option, none, some}
-use mathlib.Core.List.{List, [], _∷_, _++_, map}
-use Prim.Native.Nat.{ℕ, zero, suc, _+_, _*_, _%_, _^_, _≤_, _<_}
+use mathlib.Core.List.{List, [], _∷_, map}
+use Prim.Native.Nat.{ℕ, zero, suc, _+_, _-_, _%_, _^_, _≤_, _<_}
 use native.Mathlib.Nat.{mod-lt}
 use native.Mathlib.Omega.{arith}
-use lib.Dec.{lit<}
+use lib.Dec.{ltb, lit<}
+use lib.IntN.{pos, negsuc, _-ℤ_}
 use lib.ListN.{length}
 use Rattle.board.specs.Types.{Ticket, Unit, Request, Active, Finished, Rotation, Found, Nobody, Event, End, Ending, Ended, Refused}
-use Rattle.board.specs.Plain.{if_then_else_, _=?_, _<?_, _≤?_, Row, _⇒_, first-that-applies, Each}
-use Rattle.board.specs.Board.{the-unit, units, find, without, by-ticket, ticket-of-active, places, most-active, last-ticket, Freeze, one-freeze, one-release, freeze-number, Board, all-waiting, live, next-ticket, with-waiting, with-active, with-finished, with-freeze, with-clock, with-mark}
+use Rattle.board.specs.Plain.{_<?_, _≤?_, Row, _⇒_, first-that-applies, Each}
+use Rattle.board.specs.Board.{units, find, without, by-ticket, ticket-of-active, data-length, sense-length, places, most-active, last-ticket, Freeze, one-freeze, one-release, freeze-number, Board, all-waiting, live, next-ticket, with-active, with-finished, with-freeze, with-clock}
 use Rattle.board.specs.Block.{fields, request}
 use Rattle.board.specs.Answers.{Answer, refused, taken, sent, nothing, done, before, time, first, empty, handed, Stepped, says}
 use Rattle.board.specs.TakingIn.{Verdict, refuse, accept, address-held, checks-of-block, checks-of-board, verdict, joined, judged, taking-in}
-use Rattle.board.specs.Sending.{eligible, after, rotation, sent-first, sent-by, sending}
-use Rattle.board.specs.Ending.{ending, ended-active, reported-by, reported, reporting}
-use Rattle.board.specs.Calls.{ended-waiting, ask, asked, aborted, aborting, freezing, time-passed, ticking, all-ended, resetting, looked, not-its-block, handed-back, Call, take-in, send, event, abort, freeze, release, tick, reset, look, hand-back, step}
-use Rattle.board.specs.Demand3.{given-by, handed-by}
-use Rattle.board.proofs.Choose.{if-ind, true≢false, neither, same, below, not-below, not-at-most}
+use Rattle.board.specs.Sending.{eligible, after, rotation, sent-from, sent-first, sent-by, sending}
+use Rattle.board.specs.Ending.{sense-looked-at, sense-bytes, Base, base, refusal-102, base-status, end-by-event, implausible, ending-by, ending, ended-active, reported-by, reported, reporting}
+use Rattle.board.specs.Calls.{ended-waiting, ask, asked, aborted, aborting, freezing, time-passed, ticking, all-ended, resetting, first-of, looking, not-its-block, first-to, handing-back, Call, take-in, send, event, abort, freeze, release, tick, reset, look, hand-back, step}
+use Rattle.board.specs.Limits.{In-range}
+use Rattle.board.proofs.Choose.{if-ind, neither, not-below, not-at-most}
 use Rattle.board.proofs.Weigh.{find-ticket, find-each, find-of-units}
 
 -- what waits, waits on its own unit
@@ -51,11 +52,6 @@ pub data Idle : Answer → Type 0 where
   idle-first : (t : Ticket) (address callback : ℕ) (wanted : Bool) → Idle (first t address callback wanted)
   idle-empty : Idle empty
 
--- the board when the first one waiting on u is sent
-abbrev pub sent-from : Unit → Request → List Request → Board → Board
-sent-from u q more b =
-    with-mark u (with-waiting u more (with-active (b .active ++ (record { request = q; start = b .clock; asked = false; overdue = false } ∷ [])) b))
-
 -- the board when an active request ends
 abbrev pub ended-from : Active → End → Board → Board
 ended-from a e b = ended-active (a .request) e (with-active (without ticket-of-active (ticket-of-active a) (b .active)) b)
@@ -68,9 +64,9 @@ pub data Move (b : Board) (c : Call) : Answer → Board → Type 0 where
   stays : (a : Answer) → Idle a → Move b c a b
   joins : (q : Request) (front : Bool) → Joins b q → Move b c (taken (q .ticket)) (joined q front b)
   goes : (u : Unit) (q : Request) (more : List Request) (n : ℕ) → Goes b u → b .waiting u ≡ q ∷ more → Move b c (sent (q .ticket) u (q .cdb) n) (sent-from u q more b)
-  ends : (a : Active) (e : End) → find ticket-of-active (ticket-of-active a) (b .active) ≡ some a → Move b c done (ended-from a e b)
+  ends : (a : Active) (e : End) → find ticket-of-active (ticket-of-active a) (b .active) ≡ some a → (data-length (a .request) ≤ 0xFFFFFF → In-range (e .residual)) → Move b c done (ended-from a e b)
   aborts : (q : Request) → q .unit .0 < units → find (λ r. r .ticket) (q .ticket) (b .waiting (q .unit)) ≡ some q → Move b c done (ended-waiting q b)
-  marks : (f : Active → Active) → ((a : Active) → f a .request ≡ a .request) → (now : ℕ) → (b .clock < 2 ^ 32 → now < 2 ^ 32) → (a : Answer) → Idle a → Move b c a (with-active (map f (b .active)) (with-clock now b))
+  marks : (f : Active → Active) → ((a : Active) → f a .request ≡ a .request) → ((a : Active) → f a .start ≡ a .start) → (now : ℕ) → (b .clock < 2 ^ 32 → now < 2 ^ 32) → (a : Answer) → Idle a → Move b c a (with-active (map f (b .active)) (with-clock now b))
   freezes : (u : Unit) → Move b c (before (freeze-number (b .freezes u))) (with-freeze u (one-freeze (b .freezes u)) b)
   releases : (u : Unit) → c ≡ release u → Move b c (before (freeze-number (b .freezes u))) (with-freeze u (one-release (b .freezes u)) b)
   resets : Move b c done (reset-from b)
@@ -144,11 +140,36 @@ move-sending b =
 
 -- ---- an event
 
+-- the residual of an end is in range, for a data length that is
+abbrev Exact : Request → Ending → Type 0
+Exact q Refused = Prim.Unit {0}
+Exact q (Ended e) = data-length q ≤ 0xFFFFFF → In-range (e .residual)
+
+in-range-or : (c : Bool) (m n : ℕ) → suc m ≤ 2147483647 → n ≤ 0xFFFFFF → In-range (cond c (negsuc m) (pos n))
+in-range-or true m n h k = h
+in-range-or false m n h k = k
+
+difference-in-range : (m n : ℕ) → m ≤ 0xFFFFFF → n ≤ 0x7FFFFFFF → In-range (pos m -ℤ pos n)
+difference-in-range m zero h k = omega arith
+difference-in-range m (suc n) h k = in-range-or (ltb m (suc n)) (suc n - suc m) (m - suc n) (omega arith) (omega arith)
+
+exact-by : (q : Request) (e : Event) (moved : ℕ) (x : Base) → moved ≤ 0x7FFFFFFF → Exact q (ending-by q e moved x)
+unfolding ending-by end-by-event
+exact-by q e moved (base n) h = λ k. difference-in-range (data-length q) moved k h
+exact-by q e moved refusal-102 h = tt
+
+exact : (a : Active) (e : Event) (moved : ℕ) → Exact (a .request) (ending a e moved)
+unfolding ending implausible
+exact a e moved =
+    if-ind (Exact (a .request)) (implausible (a .request) e moved) Refused (ending-by (a .request) e moved (base-status a e moved))
+    (λ r. tt)
+    (λ r. exact-by (a .request) e moved (base-status a e moved) (not-below (neither (0x7FFFFFFF <? moved) (sense-looked-at (a .request) e && sense-length (a .request) <? sense-bytes e) r .0)))
+
 module _ (b : Board) (c : Call) where
-  move-reported-by : (a : Active) (x : Ending) → find ticket-of-active (ticket-of-active a) (b .active) ≡ some a → Moved b c (reported-by b (a .request) x)
+  move-reported-by : (a : Active) (x : Ending) → find ticket-of-active (ticket-of-active a) (b .active) ≡ some a → Exact (a .request) x → Moved b c (reported-by b (a .request) x)
   unfolding reported-by
-  move-reported-by a Refused k = stays (refused 102) (idle-refused 102)
-  move-reported-by a (Ended e) k = ends a e k
+  move-reported-by a Refused k r = stays (refused 102) (idle-refused 102)
+  move-reported-by a (Ended e) k r = ends a e k r
 
   move-reported : (t : Ticket) (e : Event) (moved : ℕ) (o : Option Active) → find ticket-of-active t (b .active) ≡ o → Moved b c (reported b e moved o)
   unfolding reported
@@ -156,13 +177,14 @@ module _ (b : Board) (c : Call) where
   move-reported t e moved (some a) k =
       move-reported-by a (ending a e moved)
       (subst (λ s. find ticket-of-active s (b .active) ≡ some a) (sym (find-ticket ticket-of-active t (b .active) a k)) k)
+      (exact a e moved)
 
   -- ---- abort
 
   move-asked : (t : Ticket) (o : Option Active) → Moved b c (asked b t o)
   unfolding asked
   move-asked t none = stays (refused 0x03) (idle-refused 0x03)
-  move-asked t (some a) = marks (ask t) (λ x. refl) (b .clock) (λ h. h) done idle-done
+  move-asked t (some a) = marks (ask t) (λ x. refl) (λ x. refl) (b .clock) (λ h. h) done idle-done
 
   move-aborted : (t : Ticket) (o : Option Request) → find (λ q. q .ticket) t (all-waiting b) ≡ o → Home b → Moved b c (aborted b t o)
   unfolding aborted
@@ -184,13 +206,13 @@ module _ (b : Board) (c : Call) where
       (λ e. m)
       (λ e. stays (refused 103) (idle-refused 103))
 
-  move-looked : (l : List Finished) → Moved b c (looked b l)
-  unfolding looked
+  move-looked : (l : List Finished) → Moved b c (first-of b l)
+  unfolding first-of
   move-looked [] = stays empty idle-empty
   move-looked (x ∷ more) = stays _ (idle-first _ _ _ _)
 
-  move-handed-back : (s : List ℕ) (l : List Finished) → b .finished ≡ l → Moved b c (handed-back b s l)
-  unfolding handed-back
+  move-handed-back : (s : List ℕ) (l : List Finished) → b .finished ≡ l → Moved b c (first-to b s l)
+  unfolding first-to
   move-handed-back s [] e = stays (refused 104) (idle-refused 104)
   move-handed-back s (x ∷ more) e =
       if-ind (Moved b c) (not-its-block s x) record { board = b; answer = refused 105; lent = s } _
@@ -200,14 +222,14 @@ module _ (b : Board) (c : Call) where
 -- ---- all of them
 
 pub moves : (b : Board) (c : Call) → Home b → Moved b c (step b c)
-unfolding step taking-in reporting aborting ticking resetting
+unfolding step taking-in reporting aborting ticking resetting looking handing-back
 moves b (take-in s) h = move-judged b s (verdict b s) refl
 moves b send h = move-sending b
 moves b (event t e moved) h = move-reported b (event t e moved) t e moved (find ticket-of-active t (b .active)) refl
 moves b (abort t) h = move-aborted b (abort t) t (find (λ q. q .ticket) t (all-waiting b)) refl h
 moves b (freeze u) h = move-freezing b (freeze u) one-freeze u (freezes u)
 moves b (release u) h = move-freezing b (release u) one-release u (releases u refl)
-moves b tick h = marks (time-passed (suc (b .clock) % 2 ^ 32)) (λ x. refl) (suc (b .clock) % 2 ^ 32) (λ k. mod-lt (suc (b .clock)) (lit< tt)) (time _) (idle-time _)
+moves b tick h = marks (time-passed (suc (b .clock) % 2 ^ 32)) (λ x. refl) (λ x. refl) (suc (b .clock) % 2 ^ 32) (λ k. mod-lt (suc (b .clock)) (lit< tt)) (time _) (idle-time _)
 moves b reset h = resets
 moves b look h = move-looked b look (b .finished)
 moves b (hand-back s) h = move-handed-back b (hand-back s) s (b .finished) refl

@@ -1,47 +1,19 @@
--- A send does not see the frozen units' waiting requests; a freeze and a release alter nothing else. Assumes nothing.
+-- A send does not see the frozen units' waiting requests. Assumes nothing.
 use mathlib.Core.Path.{_≡_, refl, sym, _∙_, ap, subst, fun-ext}
-use mathlib.Core.Logic.{_≢_}
 use mathlib.Core.Bool.{Bool, true, false, not, _&&_}
 use mathlib.Core.List.{List, [], _∷_, _++_}
 use Prim.Native.Nat.{ℕ}
 use lib.ListN.{length}
 use Rattle.board.specs.Types.{Unit, Request, Rotation, Found, Nobody}
-use Rattle.board.specs.Plain.{if_then_else_, _<?_, _≤?_}
-use Rattle.board.specs.Board.{same-unit, at, units, most-active, Freeze, one-freeze, one-release, freeze-number, Board, frozen, with-freeze}
-use Rattle.board.specs.Answers.{refused, nothing, before, Stepped, says}
+use Rattle.board.specs.Plain.{if_then_else_, _≤?_}
+use Rattle.board.specs.Board.{same-unit, at, units, most-active, Board, frozen}
+use Rattle.board.specs.Answers.{nothing, Stepped, says}
 use Rattle.board.specs.Sending.{waits, busy, eligible, rotation, sent-first, sent-by, sending}
-use Rattle.board.specs.Calls.{freezing, send, freeze, release, step}
-use Rattle.board.specs.Demand3.{Same-but-freeze, thinned}
-use Rattle.board.proofs.Choose.{if-ind, both-ifs, same, one-unit, at-other}
+use Rattle.board.specs.Calls.{send, step}
+use Rattle.board.specs.Demand3.{thinned}
+use Rattle.board.proofs.Choose.{both-ifs, same, one-unit}
 use Rattle.board.proofs.Moves.{Found-able, found-able}
 use Rattle.board.proofs.Quiet.{not-frozen}
-
--- ---- freeze and release
-
-alone : (change : Freeze → Freeze) (b : Board) (u : Unit) → Same-but-freeze u b (freezing change b u .board)
-unfolding freezing
-alone change b u =
-    if-ind (λ s. Same-but-freeze u b (s .board)) (u .0 <? units) (says (with-freeze u (change (b .freezes u)) b) (before (freeze-number (b .freezes u)))) (says b (refused 103))
-    (λ e. record {
-      waiting = λ v. refl;
-      active = refl;
-      finished = refl;
-      freezes = λ v k. at-other u v (change (b .freezes u)) (b .freezes) k;
-      clock = refl;
-      mark = refl;
-      given = refl;
-    })
-    (λ e. record { waiting = λ v. refl; active = refl; finished = refl; freezes = λ v k. refl; clock = refl; mark = refl; given = refl })
-
-pub freeze-alone : (b : Board) (u : Unit) → Same-but-freeze u b (step b (freeze u) .board)
-unfolding step
-freeze-alone = alone one-freeze
-
-pub release-alone : (b : Board) (u : Unit) → Same-but-freeze u b (step b (release u) .board)
-unfolding step
-release-alone = alone one-release
-
--- ---- a send
 
 thinned-eligible : (b : Board) (u : Unit) → eligible (thinned b) u ≡ eligible b u
 unfolding eligible thinned

@@ -1,20 +1,17 @@
 -- Every ticket ever accepted stands in exactly one place. Assumes nothing.
 use mathlib.Core.Path.{_≡_, refl, sym, _∙_, ap, subst}
-use mathlib.Core.Bool.{Bool, true, false}
 use mathlib.Core.List.{List, [], _∷_, _++_, map}
-use Prim.Native.Nat.{ℕ, suc, _+_, _≤_, _<_}
+use Prim.Native.Nat.{ℕ, suc, _+_, _≤_}
 use native.Mathlib.Omega.{arith}
 use lib.ListN.{length}
 use Rattle.board.specs.Types.{Ticket, Request}
-use Rattle.board.specs.Plain.{if_then_else_, Each}
-use Rattle.board.specs.Board.{the-ticket, same-ticket, units, ticket-of-active, Board, fresh, all-waiting, next-ticket}
-use Rattle.board.specs.Answers.{Answer}
+use Rattle.board.specs.Plain.{Each}
+use Rattle.board.specs.Board.{same-ticket, units, ticket-of-active, Board, fresh, all-waiting}
 use Rattle.board.specs.Calls.{Call, step, Ran, run}
-use Rattle.board.specs.Demand3 as Demand3
 use Rattle.board.specs.Demand3.{given-by, handed-by, accepted, handed-back, waiting-tickets, active-tickets, finished-tickets, Accounted}
 use Rattle.board.proofs.Choose.{if-ind, same}
 use Rattle.board.proofs.Weigh.{weigh, one, weigh-append, weigh-map, weigh-length, weigh-count, weigh-empty}
-use Rattle.board.proofs.Moves.{Home, Joins, moves}
+use Rattle.board.proofs.Moves.{Home, moves}
 use Rattle.board.proofs.Kept.{mass, Came, nobody-came, one-came, Kept, kept}
 
 -- what a step keeps

@@ -2,22 +2,22 @@
 use mathlib.Core.Path.{_≡_, refl, sym, _∙_, ap, subst}
 use mathlib.Core.Logic.{_≢_}
 use mathlib.Core.Bool.{Bool, true, false, not, _||_, _&&_}
-use mathlib.Core.Option.{Option, none, some}
+use mathlib.Core.Option.{some}
 use mathlib.Core.List.{List, [], _∷_}
-use Prim.Native.Nat.{ℕ, _<_}
+use Prim.Native.Nat.{ℕ}
 use native.Mathlib.Omega.{arith}
-use Rattle.board.specs.Types.{Ticket, Unit, Cdb, Request, Active, Finished, Event, End, Ending, Ended, Refused}
-use Rattle.board.specs.Plain.{if_then_else_, _=?_, _<?_, any, Each}
-use Rattle.board.specs.Board.{same-unit, units, find, by-ticket, insert, ticket-of-active, Freeze, is-frozen, one-freeze, one-release, freeze-number, Board, fresh, frozen, with-active, with-freeze}
-use Rattle.board.specs.Answers.{Answer, refused, taken, sent, nothing, done, before, time, first, empty, handed, Stepped, says}
+use Rattle.board.specs.Types.{Ticket, Unit, Request, Active, Event, End, Ended}
+use Rattle.board.specs.Plain.{_=?_, _<?_, any, Each}
+use Rattle.board.specs.Board.{same-unit, units, find, by-ticket, ticket-of-active, Freeze, is-frozen, one-freeze, one-release, freeze-number, Board, fresh, frozen, with-active, with-freeze}
+use Rattle.board.specs.Answers.{Answer, refused, taken, sent, nothing, done, before, time, first, empty, handed, says}
 use Rattle.board.specs.Sending.{waits, busy, eligible}
 use Rattle.board.specs.TakingIn.{joined}
 use Rattle.board.specs.Ending.{ending, end-unmoved, freeze-after, ended-active, reported-by, reported, reporting}
-use Rattle.board.specs.Calls.{ended-waiting, freezing, all-ended, resetting, Call, event, freeze, release, reset, step, Ran, run}
+use Rattle.board.specs.Calls.{ended-waiting, freezing, all-ended, resetting, Call, event, release, step, run}
 use Rattle.board.specs.Demand3.{Freezes, by-call, by-bad-end, by-reset, Not-a-release, Not-sent-for}
-use Rattle.board.proofs.Choose.{if-ind, true≢false, refute, both, not-true, same, not-below, one-unit, at-same, at-other}
+use Rattle.board.proofs.Choose.{if-ind, true≢false, both, not-true, same, not-below, one-unit, at-same, at-other}
 use Rattle.board.proofs.Freezes.{one-freeze-frozen}
-use Rattle.board.proofs.Moves.{Home, Goes, Idle, idle-refused, idle-nothing, idle-done, idle-before, idle-time, idle-first, idle-empty, Move, stays, joins, goes, ends, aborts, marks, freezes, releases, resets, hands-back, Moved, moves}
+use Rattle.board.proofs.Moves.{Home, Idle, idle-refused, idle-nothing, idle-done, idle-before, idle-time, idle-first, idle-empty, Move, stays, joins, goes, ends, aborts, marks, freezes, releases, resets, hands-back, moves}
 use Rattle.board.proofs.Kept.{kept}
 use Rattle.board.proofs.Weigh.{any-by-ticket}
 use Rattle.board.proofs.Places.{kept-step, accounted}
@@ -74,9 +74,9 @@ unfolding joined ended-waiting
 still (stays a i) u k h = h
 still (joins q front j) u k h = h
 still (goes v q more n g e) u k h = h
-still {b} (ends a e f) u k h = still-ended (a .request) e _ u h
+still {b} (ends a e f r) u k h = still-ended (a .request) e _ u h
 still (aborts q v f) u k h = h
-still (marks f e now l a i) u k h = h
+still (marks f e s now l a i) u k h = h
 still {b} (freezes v) u k h =
     if-ind (λ x. is-frozen x ≡ true) (same-unit u v) (one-freeze (b .freezes v)) (b .freezes u) (λ j. one-freeze-frozen (b .freezes v)) (λ j. h)
 still {b} (releases v e) u k h = rw (at-other v u (one-release (b .freezes v)) (b .freezes) (λ s. k (e ∙ ap release (sym s)))) h
@@ -123,9 +123,9 @@ silent {b} (goes v q more n g e) u h =
     let p : v ≡ u = cc in
     let f : frozen b v ≡ false = not-frozen b v (g .able) in
     true≢false (sym h ∙ (ap (frozen b) (sym p) ∙ f))
-silent (ends a e f) u h = not-sent u _ refl
+silent (ends a e f r) u h = not-sent u _ refl
 silent (aborts q v f) u h = not-sent u _ refl
-silent (marks f e now l a i) u h = not-sent u a (idle-not-sent i)
+silent (marks f e s now l a i) u h = not-sent u a (idle-not-sent i)
 silent (freezes v) u h = not-sent u _ refl
 silent (releases v e) u h = not-sent u _ refl
 silent resets u h = not-sent u _ refl

@@ -2,8 +2,8 @@
 -- are weights, so what is proved of every weight is proved of both. Assumes nothing.
 use mathlib.Core.Path.{_≡_, refl, sym, _∙_, ap, subst}
 use mathlib.Core.Logic.{_⊎_, inl, inr, _≢_}
-use mathlib.Core.Bool.{Bool, true, false, not, _||_}
-use mathlib.Core.Option.{Option, none, some}
+use mathlib.Core.Bool.{Bool, true, false, _||_}
+use mathlib.Core.Option.{some}
 use mathlib.Core.List.{List, [], _∷_, _++_, map}
 use Prim.Native.Nat.{ℕ, zero, suc, _+_, _≤_, _<_}
 use native.Mathlib.Omega.{arith}
@@ -108,6 +108,11 @@ unfolding Each
 each-append P [] ys h k = k
 each-append P (x ∷ xs) ys h k = (h .0, each-append P xs ys (h .1) k)
 
+pub each-map : {A B : Type 0} (P : B → Type 0) (f : A → B) (Q : A → Type 0) → ((x : A) → Q x → P (f x)) → (xs : List A) → Each Q xs → Each P (map f xs)
+unfolding Each
+each-map P f Q k [] h = tt
+each-map P f Q k (x ∷ xs) h = (k x (h .0), each-map P f Q k xs (h .1))
+
 -- ---- lists of things that have a ticket
 
 module _ {A : Type 0} (ticket-of : A → Ticket) where
@@ -192,3 +197,15 @@ module _ {A : Type 0} (ticket-of : A → Ticket) where
   unfolding by-ticket any
   any-by-ticket test [] = refl
   any-by-ticket test (x ∷ xs) = any-insert test x (by-ticket ticket-of xs) ∙ ap (λ c. test x || c) (any-by-ticket test xs)
+
+  each-insert : (P : A → Type 0) (y : A) (xs : List A) → P y → Each P xs → Each P (insert ticket-of y xs)
+  unfolding insert Each
+  each-insert P y [] p h = (p, tt)
+  each-insert P y (x ∷ xs) p h =
+      if-ind (Each P) (ticket-of y .0 <? ticket-of x .0) (y ∷ x ∷ xs) (x ∷ insert ticket-of y xs) (λ k. (p, h)) (λ k. (h .0, each-insert P y xs p (h .1)))
+
+  -- nor what is true of each
+  pub each-by-ticket : (P : A → Type 0) (xs : List A) → Each P xs → Each P (by-ticket ticket-of xs)
+  unfolding by-ticket Each
+  each-by-ticket P [] h = tt
+  each-by-ticket P (x ∷ xs) h = each-insert P x (by-ticket ticket-of xs) (h .0) (each-by-ticket P xs (h .1))

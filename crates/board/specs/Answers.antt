@@ -62,7 +62,7 @@ sending-says (sending.Nothing looked) = nothing looked
 abbrev pub reporting-says : Reporting → Answer
 reporting-says reporting.Ended = done
 reporting-says reporting.NotActive = refused 101
-reporting-says reporting.OutOfRange = refused 102
+reporting-says reporting.Implausible = refused 102
 
 abbrev pub aborting-says : Aborting → Answer
 aborting-says aborting.Done = done

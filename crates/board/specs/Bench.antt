@@ -1,15 +1,16 @@
--- The bench cases of document 01, each a run of calls with what the last one gives: the starred ones, which are one list
--- with one proof (a star stands for its whole sentence), and the rest, run the same way. Assumes nothing.
+-- The bench cases of document 01, each a run of calls with what the last one gives: the starred ones, which are one list with one
+-- proof (a sentence with a star in it is taken whole), and the rest, run the same way. specs/Rules.antt has more, for the sentences
+-- that the bench passes over. Assumes nothing.
 use mathlib.Core.List.{List, [], _∷_, _++_}
 use Prim.Native.Nat.{ℕ, zero, suc}
 use lib.ListN.{take, replicate}
 use lib.Seq.{sets}
 use lib.IntN.{ℤ, pos, negsuc}
-use Rattle.board.specs.Types.{Ticket, Unit, Told, Bytes, None, Event, AbortDone, Complete}
+use Rattle.board.specs.Types.{Bytes, None, Event, AbortDone, Complete}
 use Rattle.board.specs.Board.{the-ticket, the-unit, Board, fresh, with-clock}
 use Rattle.board.specs.Block.{bytes4}
 use Rattle.board.specs.Answers.{Answer, refused, taken, nothing, done, before, time, handed}
-use Rattle.board.specs.Calls.{Call, take-in, send, event, abort, freeze, release, tick, reset, hand-back, Ran, run}
+use Rattle.board.specs.Calls.{Call, take-in, send, event, abort, freeze, release, tick, reset, hand-back, run}
 
 -- what the last call answers, and every byte of the block that it is lent
 pub record Gives : Type 0 where
@@ -118,8 +119,8 @@ starred =
     -- A host-frozen unit's active request ends well: 41h.
     ∷ case fresh (take-in plain ∷ send ∷ freeze (the-unit 0) ∷ event (the-ticket 1) good 0 ∷ hand-back plain ∷ []) (handed-back 1 0x41 0x00 0 (pos 0)) (back 0x41 0x00 0 zeros plain)
     -- Abort while waiting: 02h, or 42h on a frozen unit.
-    ∷ case fresh (take-in plain ∷ abort (the-ticket 1) ∷ hand-back plain ∷ []) (handed-back 1 0x02 0x00 0 (pos 0)) (back 0x02 0x00 0 zeros plain)
-    ∷ case fresh (freeze (the-unit 0) ∷ take-in plain ∷ abort (the-ticket 1) ∷ hand-back plain ∷ []) (handed-back 1 0x42 0x00 0 (pos 0)) (back 0x42 0x00 0 zeros plain)
+    ∷ case fresh (take-in (asking 4096) ∷ abort (the-ticket 1) ∷ hand-back (asking 4096) ∷ []) (handed-back 1 0x02 0x00 0 (pos 4096)) (back 0x02 0x00 0 (0 ∷ 16 ∷ 0 ∷ 0 ∷ []) (asking 4096))
+    ∷ case fresh (freeze (the-unit 0) ∷ take-in (asking 4096) ∷ abort (the-ticket 1) ∷ hand-back (asking 4096) ∷ []) (handed-back 1 0x42 0x00 0 (pos 4096)) (back 0x42 0x00 0 (0 ∷ 16 ∷ 0 ∷ 0 ∷ []) (asking 4096))
     -- Data length 0, 7FFFFFFFh moved: residual -2,147,483,647; 80000000h: 102.
     ∷ case fresh (ended-by good 0x7FFFFFFF plain) (handed-back 1 0x52 0x00 0 (negsuc 2147483646)) (back 0x52 0x00 0 (0x01 ∷ 0x00 ∷ 0x00 ∷ 0x80 ∷ []) plain)
     ∷ case fresh (take-in plain ∷ send ∷ event (the-ticket 1) good 0x80000000 ∷ []) (refused 102) []
@@ -138,19 +139,30 @@ unfoldable pub filled : ℕ → List Call
 filled zero = []
 filled (suc n) = filled n ++ (take-in (addressed n) ∷ [])
 
+-- on LUN n of target 0
+abbrev pub on-lun : ℕ → List ℕ → List ℕ
+on-lun n s = sets s 11 (n ∷ [])
+
+-- the blocks of tickets 3 and 9
+abbrev pub third : List ℕ
+third = sets (on-lun 1 (addressed 3)) 36 (bytes4 512)
+
+abbrev pub ninth : List ℕ
+ninth = sets (addressed 9) 36 (bytes4 1024)
+
 -- tickets 1, 2 and 4 to 8 wait on unit 2, which is frozen; ticket 9 is sent before ticket 3; then the bus is reset
 abbrev pub reset-3-and-9 : List Call
 reset-3-and-9 =
     freeze (the-unit 2)
-    ∷ take-in (sets (addressed 1) 11 (2 ∷ []))
-    ∷ take-in (sets (addressed 2) 11 (2 ∷ []))
-    ∷ take-in (sets (addressed 3) 11 (1 ∷ []))
-    ∷ take-in (sets (addressed 4) 11 (2 ∷ []))
-    ∷ take-in (sets (addressed 5) 11 (2 ∷ []))
-    ∷ take-in (sets (addressed 6) 11 (2 ∷ []))
-    ∷ take-in (sets (addressed 7) 11 (2 ∷ []))
-    ∷ take-in (sets (addressed 8) 11 (2 ∷ []))
-    ∷ take-in (addressed 9)
+    ∷ take-in (on-lun 2 (addressed 1))
+    ∷ take-in (on-lun 2 (addressed 2))
+    ∷ take-in third
+    ∷ take-in (on-lun 2 (addressed 4))
+    ∷ take-in (on-lun 2 (addressed 5))
+    ∷ take-in (on-lun 2 (addressed 6))
+    ∷ take-in (on-lun 2 (addressed 7))
+    ∷ take-in (on-lun 2 (addressed 8))
+    ∷ take-in ninth
     ∷ send
     ∷ send
     ∷ reset
@@ -166,12 +178,12 @@ unstarred =
     ∷ case fresh (take-in (with-cdb-length 12) ∷ []) (taken (the-ticket 1)) (status 0x00 (with-cdb-length 12))
     ∷ case fresh (take-in (with-cdb-length 13) ∷ []) (refused 0x06) (status 0x06 (with-cdb-length 13))
     -- Reset with 3 and 9 active: 4Eh each, 3 first.
-    ∷ case fresh (reset-3-and-9 ++ (hand-back (addressed 3) ∷ [])) (handed-back 3 0x4E 0x00 0 (pos 0)) (back 0x4E 0x00 0 zeros (addressed 3))
-    ∷ case fresh (reset-3-and-9 ++ (hand-back (addressed 3) ∷ hand-back (addressed 9) ∷ [])) (handed-back 9 0x4E 0x00 0 (pos 0)) (back 0x4E 0x00 0 zeros (addressed 9))
-    -- 32 live: the next gets 05h; after one hand-back it passes. (An end alone frees no place.)
+    ∷ case fresh (reset-3-and-9 ++ (hand-back third ∷ [])) (handed-back 3 0x4E 0x00 0 (pos 512)) (back 0x4E 0x00 0 (0 ∷ 2 ∷ 0 ∷ 0 ∷ []) third)
+    ∷ case fresh (reset-3-and-9 ++ (hand-back third ∷ hand-back ninth ∷ [])) (handed-back 9 0x4E 0x00 0 (pos 1024)) (back 0x4E 0x00 0 (0 ∷ 4 ∷ 0 ∷ 0 ∷ []) ninth)
+    -- 32 live: the next gets 05h; after one hand-back it passes. (An end alone frees no place; a refusal uses up no ticket.)
     ∷ case fresh (filled 32 ++ (take-in (addressed 32) ∷ [])) (refused 0x05) (status 0x05 (addressed 32))
     ∷ case fresh (filled 32 ++ (abort (the-ticket 1) ∷ take-in (addressed 32) ∷ [])) (refused 0x05) (status 0x05 (addressed 32))
-    ∷ case fresh (filled 32 ++ (abort (the-ticket 1) ∷ hand-back (addressed 0) ∷ take-in (addressed 32) ∷ [])) (taken (the-ticket 33)) (status 0x00 (addressed 32))
+    ∷ case fresh (filled 32 ++ (take-in (addressed 32) ∷ abort (the-ticket 1) ∷ hand-back (addressed 0) ∷ take-in (addressed 32) ∷ [])) (taken (the-ticket 33)) (status 0x00 (addressed 32))
     ∷ []
 
 -- The replay program's example: F 3, F 3, R 3, N, T, H, R 64. (With an empty line any block lent to H gets 104.)

@@ -39,6 +39,10 @@ word (negsuc n) = 2 ^ 32 - suc n
 unfoldable pub signed : ℕ → ℤ
 signed n = if n <? 2 ^ 31 then pos n else negsuc (2 ^ 32 - suc n)
 
+-- Private data begins at 88: a whole block has at least as many bytes.
+abbrev pub whole-block : ℕ
+whole-block = 88
+
 -- ---- the fields that document 01 names
 
 pub record Fields : Type 0 where
@@ -62,7 +66,7 @@ pub record Fields : Type 0 where
   pub cdb-is-a-pointer : Bool
   pub sim-queue-priority : Bool
 
--- Offsets by Table 20, flags by Table 18.
+-- Offsets by Table 20, flags by Table 18. Flags not named in document 01 aren't read; reserved fields are not checked.
 unfoldable pub fields : List ℕ → Fields
 fields s = record {
   address = four 0 s;

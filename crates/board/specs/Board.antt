@@ -1,5 +1,5 @@
 -- What the board holds. Assumes nothing.
-use mathlib.Core.Bool.{Bool, true, false, _||_}
+use mathlib.Core.Bool.{Bool, true, false}
 use mathlib.Core.Option.{Option, none, some}
 use mathlib.Core.List.{List, [], _∷_, _++_, map}
 use Prim.Native.Nat.{ℕ, zero, suc, _+_, _*_}
@@ -55,8 +55,15 @@ module _ {A : Type 0} (ticket-of : A → Ticket) where
   by-ticket [] = []
   by-ticket (x ∷ xs) = insert x (by-ticket xs)
 
+-- what an active request's ticket is; and the two lengths of a request, under document 01's names
 abbrev pub ticket-of-active : Active → Ticket
 ticket-of-active a = a .request .ticket
+
+abbrev pub data-length : Request → ℕ
+data-length q = q .length
+
+abbrev pub sense-length : Request → ℕ
+sense-length q = q .sense
 
 -- ---- limits
 
@@ -103,8 +110,9 @@ one-release x = false
 
 -- ---- the board
 
--- For each unit one order of waiting, first to go first; the active requests in the order of sending; one line of
--- finished requests; for each unit its freeze; a clock; a rotation mark; and the last ticket given, 0 where none was.
+-- For each unit one order of waiting, first to go first; the active requests; one line of finished requests; for each unit its
+-- freeze; a clock; a rotation mark; and the last ticket given, 0 where none was. (The active ones stand in the order of sending.
+-- That order is ours: no answer depends on it.)
 pub record Board : Type 0 where
   pub waiting : Unit → List Request
   pub active : List Active

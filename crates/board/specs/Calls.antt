@@ -1,5 +1,5 @@
 -- The other calls, and all of them together: `step` and `run`. Assumes nothing.
-use mathlib.Core.Bool.{Bool, true, false, not, _&&_, _||_}
+use mathlib.Core.Bool.{Bool, not, _&&_, _||_}
 use mathlib.Core.Option.{Option, none, some}
 use mathlib.Core.List.{List, [], _∷_, map}
 use Prim.Native.Nat.{ℕ, suc, _+_, _-_, _%_, _^_}
@@ -7,7 +7,7 @@ use lib.ListN.{length}
 use Rattle.board.specs.Types.{Ticket, Unit, Request, Active, Finished, Event}
 use Rattle.board.specs.Plain.{if_then_else_, _=?_, _<?_}
 use Rattle.board.specs.Board.{same-ticket, units, find, without, by-ticket, ticket-of-active, Freeze, freeze-number, one-freeze, one-release, Board, frozen, all-waiting, with-waiting, with-active, with-finished, with-freeze, with-clock}
-use Rattle.board.specs.Block.{four, with-told}
+use Rattle.board.specs.Block.{whole-block, four, with-told}
 use Rattle.board.specs.Answers.{Answer, refused, done, before, time, first, empty, handed, Stepped, says}
 use Rattle.board.specs.TakingIn.{taking-in}
 use Rattle.board.specs.Sending.{sending}
@@ -80,21 +80,27 @@ resetting b = says (all-ended (by-ticket ticket-of-active (b .active)) (with-act
 -- ---- the finished line
 
 -- First ticket, address, callback and whether callback is wanted, or "empty".
-unfoldable pub looked : Board → List Finished → Stepped
-looked b [] = says b empty
-looked b (x ∷ more) = says b (first (x .request .ticket) (x .request .address) (x .request .callback) (x .request .wanted))
+unfoldable pub first-of : Board → List Finished → Stepped
+first-of b [] = says b empty
+first-of b (x ∷ more) = says b (first (x .request .ticket) (x .request .address) (x .request .callback) (x .request .wanted))
+
+unfoldable pub looking : Board → Stepped
+looking b = first-of b (b .finished)
 
 -- 105: fewer than 88 bytes lent, or bytes 0 to 3 not the first one's address
 unfoldable pub not-its-block : List ℕ → Finished → Bool
-not-its-block s x = length s <? 88 || not (four 0 s =? x .request .address)
+not-its-block s x = length s <? whole-block || not (four 0 s =? x .request .address)
 
 -- Hand back with a lent block: writes bytes 7, 52, 53 and 56 to 59 and no others, and removes the first finished request.
 -- 104 before 105.
-unfoldable pub handed-back : Board → List ℕ → List Finished → Stepped
-handed-back b s [] = record { board = b; answer = refused 104; lent = s }
-handed-back b s (x ∷ more) =
+unfoldable pub first-to : Board → List ℕ → List Finished → Stepped
+first-to b s [] = record { board = b; answer = refused 104; lent = s }
+first-to b s (x ∷ more) =
     if not-its-block s x then record { board = b; answer = refused 105; lent = s }
     else record { board = with-finished more b; answer = handed (x .request .ticket) (x .told); lent = with-told (x .told) s }
+
+unfoldable pub handing-back : Board → List ℕ → Stepped
+handing-back b s = first-to b s (b .finished)
 
 -- ---- all of them
 
@@ -116,8 +122,8 @@ step b (freeze u) = freezing one-freeze b u
 step b (release u) = freezing one-release b u
 step b tick = ticking b
 step b reset = resetting b
-step b look = looked b (b .finished)
-step b (hand-back s) = handed-back b s (b .finished)
+step b look = looking b
+step b (hand-back s) = handing-back b s
 
 pub record Ran : Type 0 where
   pub board : Board

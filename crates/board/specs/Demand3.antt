@@ -1,14 +1,15 @@
--- Demand 3, in words that speak of `run` and `step` alone. proofs/Demand3.antt proves it. Assumes nothing.
+-- Demand 3: what is said of every run of calls on a fresh board, and of every freeze, release and send. proofs/Demand3.antt proves
+-- it. Assumes nothing.
 use mathlib.Core.Path.{_≡_}
 use mathlib.Core.Logic.{_≢_}
-use mathlib.Core.Bool.{Bool, true, false}
+use mathlib.Core.Bool.{true, false}
 use mathlib.Core.Option.{some}
 use mathlib.Core.List.{List, [], _∷_, _++_, map}
 use Prim.Native.Nat.{ℕ, _+_, _≤_, _<_}
 use lib.ListN.{length}
 use Rattle.board.specs.Types.{Ticket, Unit, Cdb, Active, Event, End, Ended}
 use Rattle.board.specs.Plain.{if_then_else_, count, Each}
-use Rattle.board.specs.Board.{same-ticket, units, find, ticket-of-active, Board, fresh, frozen, all-waiting}
+use Rattle.board.specs.Board.{same-unit, same-ticket, units, find, ticket-of-active, Board, fresh, frozen, all-waiting}
 use Rattle.board.specs.Answers.{Answer, refused, taken, sent, nothing, done, before, time, first, empty, handed}
 use Rattle.board.specs.Sending.{busy}
 use Rattle.board.specs.Ending.{ending}
@@ -103,6 +104,17 @@ Not-sent-for u a = (t : Ticket) (cdb : Cdb) (looked : ℕ) → a ≢ sent t u cd
 
 -- ---- freezing or releasing alters no other unit's records
 
+-- the active requests of a unit
+unfoldable pub active-on : Unit → List Active → List Active
+active-on u [] = []
+active-on u (a ∷ more) = if same-unit (a .request .unit) u then a ∷ active-on u more else active-on u more
+
+-- the two boards have the same records of the unit: its order of waiting, its active requests, its freeze
+pub record Same-records (u : Unit) (b c : Board) : Type 0 where
+  pub waiting : c .waiting u ≡ b .waiting u
+  pub active : active-on u (c .active) ≡ active-on u (b .active)
+  pub freeze : c .freezes u ≡ b .freezes u
+
 -- the second board holds what the first does, but for u's freeze
 pub record Same-but-freeze (u : Unit) (b c : Board) : Type 0 where
   pub waiting : (v : Unit) → c .waiting v ≡ b .waiting v
@@ -141,6 +153,13 @@ pub record Demand3 : Type 0 where
   -- what follows holds on every board, so on each that such a sequence makes
   pub freeze-alone : (b : Board) (u : Unit) → Same-but-freeze u b (step b (freeze u) .board)
   pub release-alone : (b : Board) (u : Unit) → Same-but-freeze u b (step b (release u) .board)
-  -- the same answer, and the same request becomes active: the board afterwards is the thinned one
+  -- an event alters the records of no unit but its request's; a bus reset those of no unit without an active request
+  pub event-alone :
+      (b : Board) (t : Ticket) (e : Event) (moved : ℕ) (a : Active) (v : Unit)
+      → find ticket-of-active t (b .active) ≡ some a
+      → v ≢ a .request .unit
+      → Same-records v b (step b (event t e moved) .board)
+  pub reset-alone : (b : Board) (v : Unit) → busy v (b .active) ≡ false → Same-records v b (step b reset .board)
+  -- the same answer, and the same request becomes active: the board afterwards is the other board afterwards, thinned
   pub same-answer : (b : Board) → step (thinned b) send .answer ≡ step b send .answer
   pub same-pick : (b : Board) → step (thinned b) send .board ≡ thinned (step b send .board)

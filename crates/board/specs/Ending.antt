@@ -3,10 +3,10 @@ use mathlib.Core.Bool.{Bool, true, false, not, _&&_, _||_}
 use mathlib.Core.Option.{Option, none, some}
 use mathlib.Core.List.{List, [], _∷_, _++_}
 use Prim.Native.Nat.{ℕ, _+_, _-_}
-use lib.IntN.{ℤ, pos, _-ℤ_}
+use lib.IntN.{pos, _-ℤ_}
 use Rattle.board.specs.Types.{Ticket, Request, Active, Told, Sense, Bytes, Failed, None, Event, AbortDone, SelectionTimeout, Parity, BusFree, Phase, AdapterError, Complete, End, Ending, Ended, Refused}
 use Rattle.board.specs.Plain.{if_then_else_, _=?_, _<?_, _≤?_, Row, _⇒_, first-that-applies}
-use Rattle.board.specs.Board.{find, without, ticket-of-active, Freeze, is-frozen, one-freeze, Board, with-active, with-finished, with-freeze}
+use Rattle.board.specs.Board.{find, without, ticket-of-active, data-length, sense-length, Freeze, is-frozen, one-freeze, Board, with-active, with-finished, with-freeze}
 use Rattle.board.specs.Answers.{refused, done, Stepped, says}
 
 -- ---- what an event says
@@ -67,7 +67,7 @@ sense-bytes (Complete scsi sense) = bytes-of sense
 
 -- Sense is looked at only for a complete event with SCSI status 02h, autosense not disabled, sense length at least 1.
 unfoldable pub sense-looked-at : Request → Event → Bool
-sense-looked-at q e = is-complete e && scsi-status e =? 0x02 && q .autosense && 1 ≤? q .sense
+sense-looked-at q e = is-complete e && scsi-status e =? 0x02 && q .autosense && 1 ≤? sense-length q
 
 -- ---- the table
 
@@ -75,22 +75,28 @@ pub data Base : Type 0 where
   base : (status : ℕ) → Base
   refusal-102 : Base
 
--- Rows apply in order: abort done, host asked; overdue; neither; any other, request overdue; selection timeout and the
--- other four; complete, more bytes moved than asked; SCSI status 02h, sense looked at, failed or 0 bytes; SCSI status 00h
--- or 04h; ..
+-- Rows apply in order.
 unfoldable pub table-of-ends : Active → Event → (moved : ℕ) → List (Row Base)
 table-of-ends a e moved =
+    -- abort done, host asked
     (is-abort-done e && a .asked ⇒ base 0x02)
+    -- abort done, overdue
     ∷ (is-abort-done e && a .overdue ⇒ base 0x0B)
+    -- abort done, neither
     ∷ (is-abort-done e ⇒ refusal-102)
+    -- any other, request overdue
     ∷ (a .overdue ⇒ base 0x0B)
+    -- selection timeout; parity; bus free; phase; adapter error (abort done has had its rows)
     ∷ (not (is-complete e) ⇒ base (own-status e))
-    ∷ (a .request .length <? moved ⇒ base 0x12)
+    -- complete, more bytes moved than asked
+    ∷ (data-length (a .request) <? moved ⇒ base 0x12)
+    -- complete, SCSI status 02h, sense looked at, failed or 0 bytes
     ∷ (sense-looked-at (a .request) e && sense-bytes e =? 0 ⇒ base 0x10)
+    -- complete, SCSI status 00h or 04h
     ∷ (scsi-status e =? 0x00 || scsi-status e =? 0x04 ⇒ base 0x01)
     ∷ []
 
--- .. complete, any other SCSI status: 04h.
+-- complete, any other SCSI status: 04h
 unfoldable pub base-status : Active → Event → (moved : ℕ) → Base
 base-status a e moved = first-that-applies (table-of-ends a e moved) (base 0x04)
 
@@ -103,17 +109,17 @@ end-by-event n q e moved = record {
   base = n;
   scsi = scsi-status e;
   sensed = sense-looked-at q e && 1 ≤? sense-bytes e;
-  unsensed = if sense-looked-at q e then q .sense - sense-bytes e else 0;
-  residual = pos (q .length) -ℤ pos moved;
+  unsensed = if sense-looked-at q e then sense-length q - sense-bytes e else 0;
+  residual = pos (data-length q) -ℤ pos moved;
 }
 
 -- an end without an event, by abort while waiting or by bus reset: residual the whole data length
 unfoldable pub end-unmoved : (status : ℕ) → Request → End
-end-unmoved n q = record { base = n; scsi = 0; sensed = false; unsensed = 0; residual = pos (q .length) }
+end-unmoved n q = record { base = n; scsi = 0; sensed = false; unsensed = 0; residual = pos (data-length q) }
 
--- 102: bytes moved above 7FFFFFFFh; sense looked at with more bytes than asked; (abort done with neither mark)
-unfoldable pub out-of-range : Request → Event → (moved : ℕ) → Bool
-out-of-range q e moved = 0x7FFFFFFF <? moved || (sense-looked-at q e && q .sense <? sense-bytes e)
+-- 102: bytes moved above 7FFFFFFFh; sense looked at with more bytes than asked. (The third cause stands in the table.)
+unfoldable pub implausible : Request → Event → (moved : ℕ) → Bool
+implausible q e moved = 0x7FFFFFFF <? moved || (sense-looked-at q e && sense-length q <? sense-bytes e)
 
 unfoldable pub ending-by : Request → Event → (moved : ℕ) → Base → Ending
 ending-by q e moved (base n) = Ended (end-by-event n q e moved)
@@ -121,7 +127,7 @@ ending-by q e moved refusal-102 = Refused
 
 -- what an event with these bytes moved makes of an active request
 unfoldable pub ending : Active → Event → (moved : ℕ) → Ending
-ending a e moved = if out-of-range (a .request) e moved then Refused else ending-by (a .request) e moved (base-status a e moved)
+ending a e moved = if implausible (a .request) e moved then Refused else ending-by (a .request) e moved (base-status a e moved)
 
 -- A request that was active and ends with base status other than 01h freezes its unit.
 unfoldable pub freeze-after : (status : ℕ) → Freeze → Freeze

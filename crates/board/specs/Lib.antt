@@ -1,4 +1,5 @@
--- Document 01 as definitions, in its own order. Read top to bottom.
+-- Document 01 as definitions, in its own order, then what is stated of them. Read top to bottom. (The replay program's records are
+-- not here: they come with the program.)
 pub mod Types
 pub mod Plain
 pub mod Board
@@ -9,7 +10,9 @@ pub mod Sending
 pub mod Ending
 pub mod Calls
 pub mod Bench
+pub mod Rules
+pub mod Refusals
+pub mod Written
+pub mod Sends
 pub mod Demand3
 pub mod Limits
-pub mod Refusals
-pub mod Looked

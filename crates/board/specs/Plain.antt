@@ -40,7 +40,7 @@ unfoldable pub count : {A : Type 0} → (A → Bool) → List A → ℕ
 count test [] = 0
 count test (x ∷ xs) = (if test x then 1 else 0) + count test xs
 
--- each element of the list has the property
+-- each element of the list has the property (`Unit {0}` is the prelude's type with one element, and no unit of the board)
 unfoldable pub Each : {A : Type 0} → (A → Type 0) → List A → Type 0
 Each P [] = Unit {0}
 Each P (x ∷ xs) = P x × Each P xs

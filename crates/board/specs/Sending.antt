@@ -31,14 +31,16 @@ unfoldable pub rotation : (Unit → Bool) → (mark : Unit) → (left n : ℕ) �
 rotation able mark zero n = Nobody
 rotation able mark (suc left) n = if able (after mark n) then Found (after mark n) n else rotation able mark left (suc n)
 
--- Its first waiting request becomes active, its start is the clock, the mark becomes that unit. The answer holds ticket,
--- unit, the 12 CDB bytes as accepted, and how many units were looked at (1 to 64).
+-- The unit's first waiting request becomes active, its start is the clock, the mark becomes that unit.
+abbrev pub sent-from : Unit → Request → (more : List Request) → Board → Board
+sent-from u q more b =
+    with-mark u (with-waiting u more (with-active (b .active ++ (record { request = q; start = b .clock; asked = false; overdue = false } ∷ [])) b))
+
+-- The answer holds ticket, unit, the 12 CDB bytes as accepted, and how many units were looked at (1 to 64). (On an eligible unit
+-- something waits, so the first line is never reached; see Sends.antt.)
 unfoldable pub sent-first : Board → Unit → (looked : ℕ) → List Request → Stepped
 sent-first b u looked [] = says b (nothing looked)
-sent-first b u looked (q ∷ more) =
-    says
-    (with-mark u (with-waiting u more (with-active (b .active ++ (record { request = q; start = b .clock; asked = false; overdue = false } ∷ [])) b)))
-    (sent (q .ticket) u (q .cdb) looked)
+sent-first b u looked (q ∷ more) = says (sent-from u q more b) (sent (q .ticket) u (q .cdb) looked)
 
 -- If none is eligible: "nothing", looked at 64, board unchanged.
 unfoldable pub sent-by : Board → Rotation → Stepped

@@ -133,11 +133,11 @@ pub enum Sending {
     },
 }
 
-// An event on a ticket.
+// An event on a ticket: the request ended; 101; or 102, an event that can't be.
 pub enum Reporting {
     Ended,
     NotActive,
-    OutOfRange,
+    Implausible,
 }
 
 // Abort.

@@ -1,18 +1,17 @@
 -- What is written to a block and what is not; the CDB's words are its bytes; two's complement there and back. Assumes nothing.
 use mathlib.Core.Path.{_≡_, refl, ap}
 use mathlib.Core.Logic.{_≢_}
-use mathlib.Core.Bool.{true, false}
-use mathlib.Core.List.{List, [], _∷_, _++_}
+use mathlib.Core.List.{List, [], _∷_}
 use Prim.Native.Nat.{ℕ, zero, suc, _+_, _*_, _-_, _/_, _%_, _^_, _≤_, _<_}
 use native.Mathlib.Omega.{arith}
-use lib.Dec.{lit<}
 use lib.ListN.{length, length-set, getD, take, drop, set}
 use lib.Seq.{getD-set-other, drop-cons}
-use lib.IntN.{ℤ, pos, negsuc}
+use lib.IntN.{pos, negsuc}
 use Rattle.board.specs.Types.{Told}
-use Rattle.board.specs.Plain.{if_then_else_, _<?_}
-use Rattle.board.specs.Block.{byte, four, bytes4, word, signed, fields, cdb-bytes, with-status, with-told}
-use Rattle.board.proofs.Choose.{if-ind, below, when-below, unless-below}
+use Rattle.board.specs.Plain.{_<?_}
+use Rattle.board.specs.Block.{byte, bytes4, word, signed, fields, cdb-bytes, with-status, with-told}
+use Rattle.board.specs.Written.{Written}
+use Rattle.board.proofs.Choose.{if-ind, when-below, unless-below}
 
 -- ---- what is written
 
@@ -78,3 +77,14 @@ unfolding signed word
 signed-word-below-zero n h =
     let p : 2 ^ 32 - suc (2 ^ 32 - suc n) ≡ n = omega arith in
     rw (unless-below {m = 2 ^ 32 - suc n} {n = 2 ^ 31} (omega arith), p)
+
+pub written : Written
+written = record {
+  status-others = status-others;
+  status-length = status-length;
+  told-others = told-others;
+  told-length = told-length;
+  cdb-as-accepted = cdb-as-accepted;
+  signed-word = signed-word;
+  signed-word-below-zero = signed-word-below-zero;
+}
