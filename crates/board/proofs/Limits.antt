@@ -15,9 +15,9 @@ use Rattle.board.specs.TakingIn.{address-held, joined}
 use Rattle.board.specs.Sending.{waits, busy, eligible}
 use Rattle.board.specs.Ending.{end-unmoved, told, ended-active}
 use Rattle.board.specs.Calls.{ended-waiting, all-ended, Call, step, run}
-use Rattle.board.specs.Limits.{Fits, In-range, After-any-calls}
+use Rattle.board.specs.Limits.{Fits, In-range, Limits, Sound, Soundness}
 use Rattle.board.proofs.Choose.{true≢false, refute, neither, both, not-true, same, not-below, unless-below, one-unit, at-other}
-use Rattle.board.proofs.Weigh.{weigh, one, weigh-append, weigh-map, weigh-same, weigh-at-most, weigh-length, weigh-count, weigh-none, weigh-at, each-other, each-append, each-map, find-each, weigh-without, each-without, each-by-ticket}
+use Rattle.board.proofs.Weigh.{weigh, one, weigh-append, weigh-map, weigh-same, weigh-at-most, weigh-length, weigh-count, weigh-none, weigh-each, weigh-at, each-other, each-append, each-map, find-each, weigh-without, each-without, each-by-ticket}
 use Rattle.board.proofs.Moves.{Home, Joins, Goes, Move, stays, joins, goes, ends, aborts, marks, freezes, releases, resets, hands-back, moves}
 use Rattle.board.proofs.Kept.{mass, live-mass, Came, nobody-came, one-came, kept, all-ended-keeps}
 use Rattle.board.proofs.Places.{fresh-mass, fresh-home}
@@ -326,20 +326,44 @@ fresh-limited = record {
   residuals = tt;
 }
 
-pub limits : After-any-calls
-limits calls =
-    let b = run fresh calls .board in
-    let l = limited-run calls fresh fresh-limited in record {
+limits-of : (b : Board) → Limited b → Limits b
+limits-of b l = record {
+  within = omega (arith, l .within, weigh-length (live b), live-mass (λ q. 1) b);
+  at-once = omega (arith, l .at-once, weigh-length (b .active));
+  one-per-unit = λ u. rw weigh-count (l .one-per-unit u);
+  mark = l .rest .mark;
+  clock = l .rest .clock;
+  given = l .given;
+  addresses = λ n. rw weigh-count (omega (arith, live-mass (one (at-address n)) b, l .addresses n));
+  tickets = λ t. rw weigh-count (omega (arith, live-mass (one (has-ticket t)) b, l .tickets t));
+  each = each-other (Fits b) (misfit b) (fits b) (live b) (live-mass (one (misfit b)) b ∙ l .fitting);
+  starts = l .starts;
+  residuals = l .residuals;
+  nowhere-else = l .rest .nowhere-else;
+}
+
+limited-of : (b : Board) → Sound b → Limited b
+limited-of b s =
+    let l = s .limits in record {
+      home = s .own-unit;
+      rest = record { mark = l .mark; clock = l .clock; nowhere-else = l .nowhere-else };
       within = omega (arith, l .within, weigh-length (live b), live-mass (λ q. 1) b);
       at-once = omega (arith, l .at-once, weigh-length (b .active));
-      one-per-unit = λ u. rw weigh-count (l .one-per-unit u);
-      mark = l .rest .mark;
-      clock = l .rest .clock;
+      one-per-unit = λ u. rw weigh-count at (l .one-per-unit u);
       given = l .given;
-      addresses = λ n. rw weigh-count (omega (arith, live-mass (one (at-address n)) b, l .addresses n));
-      tickets = λ t. rw weigh-count (omega (arith, live-mass (one (has-ticket t)) b, l .tickets t));
-      each = each-other (Fits b) (misfit b) (fits b) (live b) (live-mass (one (misfit b)) b ∙ l .fitting);
+      addresses = λ n. omega (arith, live-mass (one (at-address n)) b, weigh-count (at-address n) (live b), l .addresses n);
+      tickets = λ t. omega (arith, live-mass (one (has-ticket t)) b, weigh-count (has-ticket t) (live b), l .tickets t);
+      fitting = sym (live-mass (one (misfit b)) b) ∙ weigh-each (Fits b) (misfit b) (no-misfit b) (live b) (l .each);
       starts = l .starts;
       residuals = l .residuals;
-      nowhere-else = l .rest .nowhere-else;
     }
+
+sound-of : (b : Board) → Limited b → Sound b
+sound-of b l = record { limits = limits-of b l; own-unit = l .home }
+
+pub soundness : Soundness
+soundness = record {
+  fresh-sound = sound-of fresh fresh-limited;
+  step-sound = λ b c s. let l = limited-of b s in sound-of (step b c .board) (limited-kept (moves b c (l .home)) l);
+  after-any-calls = λ calls. limits-of (run fresh calls .board) (limited-run calls fresh fresh-limited);
+}

@@ -70,6 +70,12 @@ each-other P test f (x ∷ xs) e =
     go true h k = absurd (omega arith)
     go false h k = h refl
 
+-- and the other way round
+pub weigh-each : {A : Type 0} (P : A → Type 0) (test : A → Bool) → ((x : A) → P x → test x ≡ false) → (xs : List A) → Each P xs → weigh (one test) xs ≡ 0
+unfolding Each
+weigh-each P test f [] h = refl
+weigh-each P test f (x ∷ xs) h = rw (f x (h .0)) (omega (arith, weigh-each P test f xs (h .1)))
+
 -- ---- the units' lists, end to end
 
 -- beyond the unit that is changed nothing changes

@@ -1,4 +1,4 @@
--- What holds of every board that calls make of a fresh one. proofs/Limits.antt proves it. Assumes nothing.
+-- What holds of every board that calls make of a fresh one, and is kept by every call. proofs/Limits.antt proves it. Assumes nothing.
 use mathlib.Core.Path.{_≡_}
 use mathlib.Core.List.{List, []}
 use Prim.Native.Nat.{ℕ, suc, _≤_, _<_, _^_}
@@ -7,7 +7,7 @@ use lib.IntN.{ℤ, pos, negsuc}
 use Rattle.board.specs.Types.{Ticket, Unit, Request}
 use Rattle.board.specs.Plain.{_=?_, count, Each}
 use Rattle.board.specs.Board.{same-unit, same-ticket, units, places, most-active, last-ticket, Board, fresh, live}
-use Rattle.board.specs.Calls.{Call, run}
+use Rattle.board.specs.Calls.{Call, step, run}
 
 -- a live request: its ticket is from 1 to the last given; its target is at most 6; its data length is at most FFFFFFh
 pub record Fits (b : Board) (q : Request) : Type 0 where
@@ -39,5 +39,13 @@ pub record Limits (b : Board) : Type 0 where
   -- nothing waits on a number that is no unit
   pub nowhere-else : (u : Unit) → units ≤ u .0 → b .waiting u ≡ []
 
-abbrev pub After-any-calls : Type 0
-After-any-calls = (calls : List Call) → Limits (run fresh calls .board)
+-- the limits hold, and what waits, waits on its own unit
+pub record Sound (b : Board) : Type 0 where
+  pub limits : Limits b
+  pub own-unit : (u : Unit) → Each (λ q. q .unit ≡ u) (b .waiting u)
+
+-- a fresh board is sound, and every call leaves a sound board sound; so the limits hold after any calls
+pub record Soundness : Type 0 where
+  pub fresh-sound : Sound fresh
+  pub step-sound : (b : Board) (c : Call) → Sound b → Sound (step b c .board)
+  pub after-any-calls : (calls : List Call) → Limits (run fresh calls .board)
