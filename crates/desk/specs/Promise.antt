@@ -1,0 +1,22 @@
+-- What each call promises. Assumes nothing.
+use Prim.Native.Nat.{ℕ}
+use mathlib.Core.Path.{_≡_}
+use mathlib.Core.List.{List}
+use Rattle.board.specs.Answers.{Answer, refused}
+use Rattle.board.specs.Calls.{Call, hand-back, step}
+use Rattle.desk.specs.View.{Rest, view, Valid}
+
+-- From the words m and the rest r to m' and r', by this call, with this answer, the lent block's bytes being s' then. A valid memory
+-- stays valid; the board that it shows, the answer and the bytes are `step`'s. And of EVERY memory, whatever it holds: a refusal leaves
+-- every word as it was.
+pub record Does (m m' : List ℕ) (r r' : Rest) (c : Call) (a : Answer) (s' : List ℕ) : Type 0 where
+  pub valid : Valid m r → Valid m' r'
+  pub board : Valid m r → view m' r' ≡ step (view m r) c .board
+  pub says : Valid m r → a ≡ step (view m r) c .answer
+  pub lent : Valid m r → s' ≡ step (view m r) c .lent
+  pub untouched : (n : ℕ) → a ≡ refused n → m' ≡ m
+
+-- Hand back, with the lent block's bytes s before and s' after. Of EVERY memory: a refusal writes nothing.
+pub record Hands-back (m m' s s' : List ℕ) (a : Answer) : Type 0 where
+  pub does : (r : Rest) → Does m m' r r (hand-back s) a s'
+  pub unwritten : (n : ℕ) → a ≡ refused n → s' ≡ s
