@@ -16,4 +16,5 @@ pub mod Ticks
 pub mod Begins
 pub mod Marks
 pub mod AbortsBy
+pub mod ResetsAll
 pub mod Sessions

@@ -47,13 +47,3 @@ module _ (m : List ℕ) (a b : List ℕ) (p : ℕ) (o : Once m (a ++ (p ∷ b)))
   once-others =
       each-other (λ x. ticket-at m x ≢ ticket-at m p) (λ x. ticket-at m x =? ticket-at m p) (λ x e. differ e) (a ++ b)
       (omega (arith, o (ticket-at m p), having-here, weigh-append (λ x. if ticket-at m x =? ticket-at m p then 1 else 0) a b))
-
-  -- and so it is of them alone
-  pub once-left : Once m (a ++ b)
-  once-left t =
-      omega (
-        arith,
-        o t,
-        weigh-append (λ x. if ticket-at m x =? t then 1 else 0) a (p ∷ b),
-        weigh-append (λ x. if ticket-at m x =? t then 1 else 0) a b,
-      )

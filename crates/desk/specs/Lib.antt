@@ -5,6 +5,7 @@ pub mod TakingIn
 pub mod Events
 pub mod Aborts
 pub mod Ticking
+pub mod Resets
 pub mod Begins
 pub mod Promise
 pub mod Session

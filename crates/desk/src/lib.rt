@@ -26,9 +26,9 @@ ghost use mathlib.Core.Path.{_≡_};
 ghost use mathlib.Core.List.{[]};
 ghost use Prim.Native.Nat.{ℕ, _<_, _+_};
 ghost use Rattle.board.specs.Board.{the-unit};
-ghost use Rattle.board.specs.Answers.{aborting-says, freezing-says, handing-back-says, looking-says, number, refused, reporting-says, sending-says, taking-in-says, time};
+ghost use Rattle.board.specs.Answers.{aborting-says, done, freezing-says, handing-back-says, looking-says, number, refused, reporting-says, sending-says, taking-in-says, time};
 ghost use Rattle.board.specs.Block.{with-status};
-ghost use Rattle.board.specs.Calls.{abort, event, freeze, release, look, send, tick};
+ghost use Rattle.board.specs.Calls.{abort, event, freeze, release, look, reset, send, tick};
 ghost use Rattle.board.specs.Sending.{rotation};
 ghost use Rattle.rows.specs.Words.{head};
 ghost use Rattle.desk.specs.Words.{bit, written, freeze-at, busy-from, can-send, launched, closed, Told-fits, finished-words, frozen-if, unit-at};
@@ -38,6 +38,7 @@ ghost use Rattle.desk.specs.Events.{closing-of, Reported};
 ghost use Rattle.desk.specs.View.{request-at, active-at, finished-at, Rest, the-rest};
 ghost use Rattle.desk.specs.Begins.{cleared, Fresh};
 ghost use Rattle.desk.specs.Ticking.{marked, marked-from};
+ghost use Rattle.desk.specs.Resets.{reset-told, reset-words, smallest-spot, Smallest-ended};
 ghost use Rattle.desk.specs.Promise.{Does, Hands-back};
 
 fn wide(x: u32) -> usize
@@ -645,4 +646,43 @@ pub fn tick(mem: &mut [u32; WORDS], clock: u32) -> u32
     let next = std::num::wrapping_add_u32(clock, 1);
     mark_late(mem, next);
     next
+}
+
+// ---- bus reset
+
+// The active request at a place ends with 0Eh, and its unit is frozen. q is the place before it in its row, or 32.
+fn end_by_reset(mem: &mut [u32; WORDS], q: Place, p: Place)
+    requires { ⌜ p .0 < 32 ⌝ }
+    ensures { λ r. ⌜ (now (mem .exit) ≡ reset-words (now (mem .entry)) (q .0) (p .0)) × Told-fits (reset-told (now (mem .entry)) (p .0)) ⌝ }
+{
+    let request = request_at(mem, p);
+    let u = unit_at(mem, p);
+    let told = ends::reset(request);
+    finish(mem, 2, q, p, told);
+    freeze_if(mem, u, true);
+}
+
+// The active request with the smallest ticket ends, where there is one.
+fn end_smallest(mem: &mut [u32; WORDS])
+    ensures { λ r. ⌜ Smallest-ended (now (mem .entry)) (now (mem .exit)) (smallest-spot (now (mem .entry))) ⌝ }
+{
+    let ticket = rows::smallest(mem, 2);
+    match rows::seek(mem, 2, ticket) {
+        Spot::Nowhere => {}
+        Spot::At { before, place } => end_by_reset(mem, before, place),
+    }
+}
+
+// Bus reset: every active request ends, smallest ticket first.
+pub fn reset(mem: &mut [u32; WORDS])
+    ensures { λ r. ⌜ ((rest : Rest) → Does (now (mem .entry)) (now (mem .exit)) rest rest reset done []) ⌝ }
+{
+    let mut i: usize = 0;
+    while i < 32 {
+        if 32 <= rows::first_of(mem, 2).0 {
+            return;
+        }
+        end_smallest(mem);
+        i += 1;
+    }
 }

@@ -1,6 +1,6 @@
 -- A place is taken out of one row, something is written that is no link, and it is put into a row: the rows afterwards. What every
 -- call that moves a request cites. Assumes nothing.
-use Prim.Native.Nat.{ℕ, zero, suc, _+_, _<_, _≤_, _%_}
+use Prim.Native.Nat.{ℕ, suc, _+_, _<_, _≤_, _%_}
 use native.Mathlib.Omega.{arith}
 use mathlib.Core.Path.{_≡_, refl, sym, ap, _∙_, subst}
 use mathlib.Core.Logic.{_≢_}
@@ -11,7 +11,7 @@ use lib.Dec.{ltb, eqb}
 use lib.ListN.{length, getD, set, length-set, length-append}
 use lib.Seq.{getD-set-same}
 use Rattle.rows.specs.Words.{next, owner, head, tail, popped, put-last, put-first, cut-after, cut-out}
-use Rattle.rows.specs.Rows.{Not-in, Run, Last, Row, Linked, put, total, row-of, Sound-rows}
+use Rattle.rows.specs.Rows.{Not-in, Run, Last, Linked, put, total, row-of, Sound-rows}
 use Rattle.rows.proofs.Links.{off, pop-linked, push-last, push-first, cut-linked, cut-place, last-within, put-same, put-other}
 use Rattle.rows.proofs.Shown.{total-put, rows-found, shown, map-run, map-snoc}
 

@@ -2,15 +2,15 @@
 use Prim.Native.Nat.{ℕ, zero, suc, _+_, _<_, _≤_, _%_}
 use native.Mathlib.Omega.{arith}
 use native.Mathlib.Numerals.{add-one}
-use mathlib.Core.Path.{_≡_, refl, sym, ap, _∙_, subst, fun-ext}
+use mathlib.Core.Path.{_≡_, refl, sym, _∙_, subst, fun-ext}
 use mathlib.Core.Logic.{_≢_}
 use mathlib.Core.List.{List, [], _∷_, _++_}
 use mathlib.Core.Bool.{Bool, true, false, cond}
 use lib.Dec.{ltb, eqb}
-use lib.ListN.{length, getD, set, replicate, length-replicate, getD-replicate}
+use lib.ListN.{getD, set, replicate, length-replicate, getD-replicate}
 use Rattle.rows.specs.Words.{owner, head, tail, put-last}
-use Rattle.rows.specs.Rows.{Linked, put, total, row-of, Begun}
-use Rattle.rows.proofs.Links.{off, push-last, put-same, put-other}
+use Rattle.rows.specs.Rows.{Linked, put, total, Begun}
+use Rattle.rows.proofs.Links.{off, push-last, put-other}
 use Rattle.rows.proofs.Shown.{shown, rows-found}
 
 up-to : ℕ → List ℕ

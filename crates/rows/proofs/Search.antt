@@ -1,7 +1,7 @@
 -- What the searches along a row find, said of the row and not of the links. Assumes nothing.
-use Prim.Native.Nat.{ℕ, zero, suc, _+_, _<_, _≤_, min}
+use Prim.Native.Nat.{ℕ, zero, suc, _<_, _≤_, min}
 use native.Mathlib.Omega.{arith}
-use mathlib.Core.Path.{_≡_, refl, sym, ap, _∙_, subst}
+use mathlib.Core.Path.{_≡_, refl, ap}
 use mathlib.Core.Logic.{_≢_}
 use mathlib.Core.List.{List, [], _∷_, _++_, map}
 use mathlib.Core.Bool.{Bool, true, false, cond}
@@ -57,7 +57,7 @@ seek-place (suc fuel) m t q h q' p e = go (leb 32 h) refl (eqb (ticket-at m h) t
 
 -- ---- the smallest
 
-pub smallest-of : ℕ → List ℕ → ℕ
+unfoldable pub smallest-of : ℕ → List ℕ → ℕ
 smallest-of best [] = best
 smallest-of best (x ∷ l) = smallest-of (min best x) l
 

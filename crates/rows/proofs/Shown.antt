@@ -4,13 +4,12 @@ use Prim.Native.Nat.{ℕ, zero, suc, _+_, _<_, _≤_}
 use native.Mathlib.Omega.{arith}
 use native.Mathlib.Decide.{ℕ-discrete}
 use mathlib.Core.Path.{_≡_, refl, sym, ap, _∙_, subst}
-use mathlib.Core.Logic.{_≢_, by-cases}
+use mathlib.Core.Logic.{by-cases}
 use mathlib.Core.List.{List, [], _∷_, _++_, map}
-use mathlib.Core.Bool.{cond}
-use borrow.Author.Tests.{lt-ltb, le-ltb, eq-eqb, ne-eqb, le-leb, lt-leb}
+use borrow.Author.Tests.{lt-ltb, le-ltb, le-leb, lt-leb}
 use lib.ListN.{length}
 use Rattle.rows.specs.Words.{next, owner, head, length-from}
-use Rattle.rows.specs.Rows.{Not-in, Run, Row, Linked, put, total, walk, row-of, Sound-rows}
+use Rattle.rows.specs.Rows.{Run, Row, Linked, put, total, walk, row-of, Sound-rows}
 use Rattle.rows.proofs.Links.{put-same, put-other}
 
 -- ---- how many places

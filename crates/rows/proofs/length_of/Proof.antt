@@ -1,7 +1,7 @@
 -- `rows::length_of` meets its contract. The whole walk is the part done and the rest of it. Assumes nothing.
 use Prim.Native.Nat.{_≤_, _-_, _+_}
 use native.Mathlib.Omega.{arith}
-use mathlib.Core.Path.{_≡_, refl, sym, ap, _∙_}
+use mathlib.Core.Path.{_≡_}
 use borrow.Author.Needs.{needs}
 use Rattle.rows.specs.Words.{head, length-from}
 use Rattle.rows.proofs.Walks.{length-over, length-end, length-next}

@@ -1,6 +1,6 @@
 -- `rows::put_last` meets its contract. Assumes nothing.
 use mathlib.Core.Logic.{⊎-elim}
-use borrow.Author.Tests.{lt-ltb, le-ltb, eq-eqb, ne-eqb}
+use borrow.Author.Tests.{lt-ltb, le-ltb}
 use Rattle.rows.specs.Words.{put-last}
 use borrow.Author.Needs.{needs}
 use Rattle.rows.proofs.put_last.Statement.{statement}

@@ -1,7 +1,7 @@
 -- `rows::seek` meets its contract. The whole search equals the rest of it. Assumes nothing.
-use Prim.Native.Nat.{_≤_, _-_, _+_}
+use Prim.Native.Nat.{_≤_, _-_}
 use native.Mathlib.Omega.{arith}
-use mathlib.Core.Path.{_≡_, refl, sym, ap, _∙_}
+use mathlib.Core.Path.{_≡_, sym, _∙_}
 use borrow.Author.Needs.{needs}
 use Rattle.rows.specs.Words.{head, seek-from}
 use Rattle.rows.proofs.Walks.{seek-over, seek-end, seek-stop, seek-next}

@@ -1,6 +1,6 @@
 -- `rows::take_after` meets its contract. Assumes nothing.
 use mathlib.Core.Logic.{⊎-elim}
-use borrow.Author.Tests.{lt-ltb, le-ltb, eq-eqb, ne-eqb}
+use borrow.Author.Tests.{eq-eqb, ne-eqb}
 use Rattle.rows.specs.Words.{cut-after}
 use borrow.Author.Needs.{needs}
 use Rattle.rows.proofs.take_after.Statement.{statement}

@@ -1,5 +1,5 @@
 -- `rows::take_out` meets its contract. Assumes nothing.
-use borrow.Author.Tests.{lt-ltb, le-ltb, eq-eqb, ne-eqb}
+use borrow.Author.Tests.{lt-ltb, le-ltb}
 use Rattle.rows.specs.Words.{cut-out}
 use borrow.Author.Needs.{needs}
 use Rattle.rows.proofs.take_out.Statement.{statement}
