@@ -2,16 +2,15 @@
 use Prim.Native.Nat.{ℕ, _+_, _<_, _≤_}
 use native.Mathlib.Omega.{arith}
 use mathlib.Core.Path.{_≡_, refl, sym, ap, _∙_, subst, fun-ext}
-use mathlib.Core.Logic.{_≢_}
 use mathlib.Core.Bool.{Bool, true, false, cond, not}
 use mathlib.Core.List.{List, []}
 use lib.ListN.{set}
 use lib.Seq.{getD-set-same}
-use borrow.Author.Tests.{eq-eqb, ne-eqb}
 use Rattle.board.specs.declared.Unit.{Unit}
+use Rattle.board.specs.declared.Freezing.{Freezing}
 use Rattle.board.specs.Plain.{if_then_else_, _=?_}
 use Rattle.board.specs.Board.{the-unit, same-unit, at, units, Freeze, no-freeze, is-frozen, freeze-number, one-freeze, one-release, Board, with-freeze}
-use Rattle.board.specs.Answers.{refused, before, Stepped, says}
+use Rattle.board.specs.Answers.{refused, before, Stepped, says, freezing-says}
 use Rattle.board.specs.Calls.{freezing, Call, freeze, release, step}
 use Rattle.board.proofs.Choose.{by-cases, same, differ, when-below, unless-below, one-unit, at-same, at-other}
 use Rattle.rows.specs.Rows.{Sound-rows}
@@ -19,7 +18,7 @@ use Rattle.rows.proofs.Links.{off}
 use Rattle.rows.proofs.Carry.{Same-links, same-links, set-links, same-rows, same-read}
 use Rattle.board.specs.Ending.{freeze-after}
 use Rattle.ends.specs.Closing.{bad}
-use Rattle.desk.specs.Words.{freeze-at, word-of, frozen-if}
+use Rattle.desk.specs.Words.{freeze-at, word-of, Freeze-set, no-such-unit, freeze-set, frozen-if}
 use Rattle.desk.specs.View.{request-at, active-at, finished-at, freeze-of, Rest, view}
 use Rattle.desk.specs.Promise.{Does}
 use Rattle.desk.proofs.Read.{Same-place, same-request-at, same-active-at, same-finished-at}
@@ -116,13 +115,13 @@ module _ (change : Freeze → Freeze) (x : ℕ) (back : (n : ℕ) → change (fr
   abbrev by : Board → Bool → Stepped
   by b t = if t then says (with-freeze u (change (b .freezes u)) b) (before (freeze-number (b .freezes u))) else says b (refused 103)
 
-  pub no-such-unit : (m : List ℕ) (r : Rest) → units ≤ u .0 → Does m m r r c (refused 103) []
+  not-a-unit : (m : List ℕ) (r : Rest) → units ≤ u .0 → Does m m r r c (refused 103) []
   unfolding freezing
-  no-such-unit m r h =
+  not-a-unit m r h =
       let e : step (view m r) c ≡ says (view m r) (refused 103) = is (view m r) ∙ ap (by (view m r)) (unless-below h) in
       does (λ v. v .rows) (λ v. sym (ap (λ s. s .board) e)) (λ v. sym (ap (λ s. s .answer) e)) (λ v. sym (ap (λ s. s .lent) e)) (λ n z. refl)
 
-  pub freeze-changed : (m : List ℕ) (r : Rest) → u .0 < units → Does m (set m (262 + u .0) x) r r c (before (if freeze-at m (u .0) =? 0 then 0 else 1)) []
+  freeze-changed : (m : List ℕ) (r : Rest) → u .0 < units → Does m (set m (262 + u .0) x) r r c (before (if freeze-at m (u .0) =? 0 then 0 else 1)) []
   unfolding freezing
   freeze-changed m r h =
       let b = view m r in
@@ -136,11 +135,9 @@ module _ (change : Freeze → Freeze) (x : ℕ) (back : (n : ℕ) → change (fr
       (λ v. sym (ap (λ s. s .lent) e))
       (λ n y. let k : _≡_ {A = ℕ} 0 1 = cc in absurd (omega arith))
 
-  pub was-released : (m : List ℕ) (r : Rest) → u .0 < units → freeze-at m (u .0) ≡ 0 → Does m (set m (262 + u .0) x) r r c (before 0) []
-  was-released m r h e = subst (λ t. Does m (set m (262 + u .0) x) r r c (before (if t then 0 else 1)) []) (eq-eqb (freeze-at m (u .0)) 0 e) (freeze-changed m r h)
-
-  pub was-frozen : (m : List ℕ) (r : Rest) → u .0 < units → freeze-at m (u .0) ≢ 0 → Does m (set m (262 + u .0) x) r r c (before 1) []
-  was-frozen m r h n = subst (λ t. Does m (set m (262 + u .0) x) r r c (before (if t then 0 else 1)) []) (ne-eqb (freeze-at m (u .0)) 0 n) (freeze-changed m r h)
+  pub freezing-does : (m m' : List ℕ) (r : Rest) (f : Freezing) → Freeze-set m m' (u .0) x f → Does m m' r r c (freezing-says f) []
+  freezing-does m m' r f (no-such-unit h e) = subst (λ n. Does m n r r c (refused 103) []) (sym e) (not-a-unit m r h)
+  freezing-does m m' r f (freeze-set h e) = subst (λ n. Does m n r r c (before (if freeze-at m (u .0) =? 0 then 0 else 1)) []) (sym e) (freeze-changed m r h)
 
 pub freeze-is : (u : Unit) (b : Board) → step b (freeze u) ≡ freezing one-freeze b u
 unfolding step

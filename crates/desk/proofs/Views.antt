@@ -84,36 +84,31 @@ same-freezes m m' r r' e u =
     (λ h. freeze-on m' r' u (below h) ∙ (ap freeze-of (e (u .0) (below h)) ∙ sym (freeze-on m r u (below h))))
     (λ h. freeze-nowhere m' r' u (not-below h) ∙ sym (freeze-nowhere m r u (not-below h)))
 
--- freezes, one of them changed
+-- something of each unit, one of them changed
+changed : {A : Type 0} (f g : Unit → A) (u : Unit) (x : A) → f u ≡ x → ((v : Unit) → v .0 < units → v .0 ≢ u .0 → f v ≡ g v) → ((v : Unit) → units ≤ v .0 → f v ≡ g v) → (v : Unit) → f v ≡ at u x g v
+changed f g u x here there nowhere v =
+    by-cases (same-unit v u)
+    (λ e. subst (λ w. f w ≡ at u x g w) (sym (one-unit (same e))) (here ∙ sym (at-same u x g)))
+    (λ e.
+    let same-there : f v ≡ g v = by-cases (v .0 <? units) (λ b. there v (below b) (differ e)) (λ b. nowhere v (not-below b)) in
+    same-there ∙ sym (at-other u v x g (λ z. differ e (ap (λ w. w .0) z))))
+
 pub freezes-changed : (m m' : List ℕ) (r r' : Rest) (u : Unit) (x : Freeze) → u .0 < units → freeze-of (freeze-at m' (u .0)) ≡ x
     → ((v : ℕ) → v < units → v ≢ u .0 → freeze-at m' v ≡ freeze-at m v)
     → (v : Unit) → view m' r' .freezes v ≡ at u x (view m r .freezes) v
-freezes-changed m m' r r' u x h here there v =
-    by-cases (same-unit v u)
-    (λ e.
-    let p : v ≡ u = one-unit (same e) in
-    subst (λ w. view m' r' .freezes w ≡ at u x (view m r .freezes) w) (sym p) (freeze-on m' r' u h ∙ (here ∙ sym (at-same u x (view m r .freezes)))))
-    (λ e.
-    let n : v ≢ u = λ z. differ e (ap (λ w. w .0) z) in
-    by-cases (v .0 <? units)
-    (λ b. freeze-on m' r' v (below b) ∙ (ap freeze-of (there (v .0) (below b) (differ e)) ∙ (sym (freeze-on m r v (below b)) ∙ sym (at-other u v x (view m r .freezes) n))))
-    (λ b. freeze-nowhere m' r' v (not-below b) ∙ (sym (freeze-nowhere m r v (not-below b)) ∙ sym (at-other u v x (view m r .freezes) n))))
+freezes-changed m m' r r' u x h here there =
+    changed (view m' r' .freezes) (view m r .freezes) u x (freeze-on m' r' u h ∙ here)
+    (λ v b n. freeze-on m' r' v b ∙ (ap freeze-of (there (v .0) b n) ∙ sym (freeze-on m r v b)))
+    (λ v b. freeze-nowhere m' r' v b ∙ sym (freeze-nowhere m r v b))
 
--- orders of waiting, one of them changed
 pub waiting-changed : (m m' : List ℕ) (r r' : Rest) (u : Unit) (l : List Request) → u .0 < units
     → map (request-at m') (row-of m' (waiting-row (u .0))) ≡ l
     → ((v : ℕ) → v < units → v ≢ u .0 → map (request-at m') (row-of m' (waiting-row v)) ≡ map (request-at m) (row-of m (waiting-row v)))
     → (v : Unit) → view m' r' .waiting v ≡ at u l (view m r .waiting) v
-waiting-changed m m' r r' u l h here there v =
-    by-cases (same-unit v u)
-    (λ e.
-    let p : v ≡ u = one-unit (same e) in
-    subst (λ w. view m' r' .waiting w ≡ at u l (view m r .waiting) w) (sym p) (waiting-on m' r' u h ∙ (here ∙ sym (at-same u l (view m r .waiting)))))
-    (λ e.
-    let n : v ≢ u = λ z. differ e (ap (λ w. w .0) z) in
-    by-cases (v .0 <? units)
-    (λ b. waiting-on m' r' v (below b) ∙ (there (v .0) (below b) (differ e) ∙ (sym (waiting-on m r v (below b)) ∙ sym (at-other u v l (view m r .waiting) n))))
-    (λ b. waiting-nowhere m' r' v (not-below b) ∙ (sym (waiting-nowhere m r v (not-below b)) ∙ sym (at-other u v l (view m r .waiting) n))))
+waiting-changed m m' r r' u l h here there =
+    changed (view m' r' .waiting) (view m r .waiting) u l (waiting-on m' r' u h ∙ here)
+    (λ v b n. waiting-on m' r' v b ∙ (there (v .0) b n ∙ sym (waiting-on m r v b)))
+    (λ v b. waiting-nowhere m' r' v b ∙ sym (waiting-nowhere m r v b))
 
 -- orders of waiting, none of them changed
 pub same-waiting : (m m' : List ℕ) (r r' : Rest) → ((v : ℕ) → v < units → map (request-at m') (row-of m' (waiting-row v)) ≡ map (request-at m) (row-of m (waiting-row v)))

@@ -7,7 +7,7 @@
 --       j = 0 unit, 1 callback, 2 callback wanted, 3 data length, 4 sense length, 5 autosense not disabled, 6 timeout, 7 to 9 CDB;
 --       while it is active 10 start, 11 asked, 12 overdue;
 --       when it is finished 10 status byte, 11 SCSI status, 12 autosense residual, 13 residual
-use Prim.Native.Nat.{ℕ, zero, suc, _+_, _*_, _%_, _<_}
+use Prim.Native.Nat.{ℕ, zero, suc, _+_, _*_, _%_, _<_, _≤_}
 use mathlib.Core.Path.{_≡_}
 use mathlib.Core.Bool.{Bool, true, false, cond, not, _&&_}
 use mathlib.Core.List.{List, [], _∷_}
@@ -16,7 +16,9 @@ use lib.Dec.{leb, eqb}
 use Rattle.board.specs.declared.Unit.{Unit}
 use Rattle.board.specs.declared.Request.{Request}
 use Rattle.board.specs.declared.Told.{Told}
-use Rattle.board.specs.Plain.{if_then_else_}
+use Rattle.board.specs.declared.Freezing.{Freezing}
+use Rattle.board.specs.declared.Freezing.the-variants as freezing
+use Rattle.board.specs.Plain.{if_then_else_, _=?_}
 use Rattle.board.specs.Block.{word, signed}
 use Rattle.rows.specs.Words.{next, head, popped, put-last, cut-out}
 
@@ -54,6 +56,13 @@ started m p clock = stores m p 10 (clock ∷ 0 ∷ 0 ∷ [])
 -- its end is kept
 unfoldable pub closed : List ℕ → (place : ℕ) → Told → List ℕ
 closed m p x = stores m p 10 (x .status ∷ x .scsi ∷ x .unsensed ∷ word (x .residual) ∷ [])
+
+-- ---- freezing
+
+-- unit u's freeze becomes x, from m to m', with this answer: 1 if it was frozen before, else 0
+pub data Freeze-set (m m' : List ℕ) (u x : ℕ) : Freezing → Type 0 where
+  no-such-unit : 64 ≤ u → m' ≡ m → Freeze-set m m' u x freezing.NoSuchUnit
+  freeze-set : u < 64 → m' ≡ set m (262 + u) x → Freeze-set m m' u x (freezing.Before (if freeze-at m u =? 0 then 0 else 1))
 
 -- ---- sending
 

@@ -31,7 +31,7 @@ ghost use Rattle.board.specs.Block.{with-status};
 ghost use Rattle.board.specs.Calls.{abort, event, freeze, release, look, reset, send, tick};
 ghost use Rattle.board.specs.Sending.{rotation};
 ghost use Rattle.rows.specs.Words.{head};
-ghost use Rattle.desk.specs.Words.{bit, written, freeze-at, busy-from, can-send, launched, closed, Told-fits, finished-words, frozen-if, unit-at};
+ghost use Rattle.desk.specs.Words.{bit, written, freeze-at, Freeze-set, busy-from, can-send, launched, closed, Told-fits, finished-words, frozen-if, unit-at};
 ghost use Rattle.desk.specs.Aborts.{stands, Waits-on, aborted-told, aborted-words, asked-words};
 ghost use Rattle.desk.specs.TakingIn.{held-to, entered, TakesIn};
 ghost use Rattle.desk.specs.Events.{closing-of, Reported};
@@ -254,36 +254,34 @@ pub fn look(mem: &[u32; WORDS]) -> Looking
 
 // ---- freeze and release
 
-// Freeze a unit: 1 if it was frozen before, else 0; refused above 63.
-pub fn freeze(mem: &mut [u32; WORDS], u: Unit) -> Freezing
-    ensures { λ r. ⌜ ((rest : Rest) → Does (now (mem .entry)) (now (mem .exit)) rest rest (freeze u) (freezing-says r) []) ⌝ }
+// A unit's freeze becomes x, whatever it was: 1 if it was frozen before, else 0; refused above 63.
+fn set_freeze(mem: &mut [u32; WORDS], u: Unit, x: u32) -> Freezing
+    ensures { λ r. ⌜ Freeze-set (now (mem .entry)) (now (mem .exit)) (u .0) x r ⌝ }
 {
     let i = u.0 as usize;
     if 64 <= i {
         return Freezing::NoSuchUnit;
     }
     let was = mem[262 + i];
-    mem[262 + i] = 1;
+    mem[262 + i] = x;
     if was == 0 {
         return Freezing::Before(0);
     }
     Freezing::Before(1)
 }
 
-// Release a unit: 1 if it was frozen before, else 0; refused above 63.
+// Freeze a unit.
+pub fn freeze(mem: &mut [u32; WORDS], u: Unit) -> Freezing
+    ensures { λ r. ⌜ ((rest : Rest) → Does (now (mem .entry)) (now (mem .exit)) rest rest (freeze u) (freezing-says r) []) ⌝ }
+{
+    set_freeze(mem, u, 1)
+}
+
+// Release a unit.
 pub fn release(mem: &mut [u32; WORDS], u: Unit) -> Freezing
     ensures { λ r. ⌜ ((rest : Rest) → Does (now (mem .entry)) (now (mem .exit)) rest rest (release u) (freezing-says r) []) ⌝ }
 {
-    let i = u.0 as usize;
-    if 64 <= i {
-        return Freezing::NoSuchUnit;
-    }
-    let was = mem[262 + i];
-    mem[262 + i] = 0;
-    if was == 0 {
-        return Freezing::Before(0);
-    }
-    Freezing::Before(1)
+    set_freeze(mem, u, 0)
 }
 
 // ---- sending

@@ -2,52 +2,16 @@
 use denote.Ref.{now}
 use Rattle.board.specs.Board.{one-freeze}
 use Rattle.board.specs.Calls.{freeze}
-use Rattle.desk.proofs.Freezes.{freeze-back, freeze-is, no-such-unit, was-released, was-frozen}
+use Rattle.desk.proofs.Freezes.{freeze-back, freeze-is, freezing-does}
 use borrow.Author.Needs.{needs}
 use Rattle.desk.proofs.freeze.Statement.{statement}
 use Rattle.desk.proofs.freeze.Tie as tie
 
-cast-i : tie.Need-cast-i
-cast-i c = search needs
+set-freeze-requires : tie.Need-set-freeze-requires
+set-freeze-requires c κs = search needs
 
 returns : tie.Need-returns
-returns c = let a = c .before .before .args in λ rest. no-such-unit one-freeze 1 freeze-back (a .u) (freeze (a .u)) (freeze-is (a .u)) (now (a .mem)) rest (c .if1 .taken)
-
-add-was : tie.Need-add-was
-add-was c = search needs
-
-mul-was : tie.Need-mul-was
-mul-was c = search needs
-
-element-copy-out-was : tie.Need-element-copy-out-was
-element-copy-out-was c = search needs
-
-add-mem : tie.Need-add-mem
-add-mem c = search needs
-
-mul-mem : tie.Need-mul-mem
-mul-mem c = search needs
-
-element-write-mem : tie.Need-element-write-mem
-element-write-mem c = search needs
-
-returns-2 : tie.Need-returns-2
-returns-2 c = let a = c .before .before .before .before .args in λ rest. was-released one-freeze 1 freeze-back (a .u) (freeze (a .u)) (freeze-is (a .u)) (now (a .mem)) rest (c .before .before .if1 .left) (c .if2 .taken)
-
-returns-3 : tie.Need-returns-3
-returns-3 c = let a = c .before .before .before .before .args in λ rest. was-frozen one-freeze 1 freeze-back (a .u) (freeze (a .u)) (freeze-is (a .u)) (now (a .mem)) rest (c .before .before .if1 .left) (c .if2 .left)
+returns c = let a = c .before .before .args in λ rest. freezing-does one-freeze 1 freeze-back (a .u) (freeze (a .u)) (freeze-is (a .u)) (now (a .mem)) (c .set-freeze .last .0) rest (c .set-freeze .result) (c .set-freeze .ensures)
 
 pub freeze-spec : {M : Type 1} → statement M
-freeze-spec =
-    tie.close
-    (tie.spec
-    cast-i
-    returns
-    add-was
-    mul-was
-    element-copy-out-was
-    add-mem
-    mul-mem
-    element-write-mem
-    returns-2
-    returns-3)
+freeze-spec = tie.close (tie.spec set-freeze-requires returns)
