@@ -16,9 +16,10 @@ use Rattle.rows.proofs.Links.{off}
 use Rattle.rows.proofs.Carry.{Same-links, same-links, set-links, same-rows}
 use Rattle.desk.specs.Words.{freeze-at}
 use Rattle.desk.specs.View.{request-at, active-at, finished-at, freeze-of, Rest, the-rest, view}
-use Rattle.desk.specs.Begins.{cleared, Fresh}
+use Rattle.desk.specs.Begins.{cleared}
 use Rattle.desk.proofs.Freezes.{fresh-back}
 use Rattle.desk.proofs.Views.{board-same, waiting-on, waiting-nowhere, freeze-on, freeze-nowhere}
+use Rattle.desk.specs.Promise.{Fresh}
 
 -- ---- the freeze words
 

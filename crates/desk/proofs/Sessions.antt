@@ -9,8 +9,8 @@ use Rattle.board.specs.Calls.{Call, step, run}
 use Rattle.board.specs.Demand3.{Accounted, Freezes, Not-sent-for, Same-but-freeze, Same-records, thinned}
 use Rattle.board.proofs.Demand3.{demand3}
 use Rattle.desk.specs.View.{Rest, view, Valid}
-use Rattle.desk.specs.Begins.{Fresh}
 use Rattle.desk.specs.Session.{Session, over, after, start, ran, Desk}
+use Rattle.desk.specs.Promise.{Fresh}
 
 session-valid : {m m' : List ℕ} {r r' : Rest} {calls : List Call} {answers : List Answer} {blocks : List (List ℕ)} → Valid m r → Session m' r' m r calls answers blocks → Valid m' r'
 session-valid v over = v

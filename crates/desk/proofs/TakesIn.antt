@@ -25,8 +25,8 @@ use Rattle.rows.proofs.Shown.{row-some}
 use Rattle.rows.proofs.Carry.{Out, first-out, joins, put-in, Carried, carry, read-same, read-joined}
 use Rattle.desk.specs.Words.{freeze-at, written}
 use Rattle.desk.specs.View.{request-at, active-at, finished-at, Rest, the-rest, view, Valid}
-use Rattle.desk.specs.Promise.{Does}
-use Rattle.desk.specs.TakingIn.{held-to, entered, TakesIn}
+use Rattle.desk.specs.Promise.{Does, Takes-in}
+use Rattle.desk.specs.TakingIn.{held-to, entered}
 use Rattle.desk.proofs.Read.{Same-place, Request-fits, same-request-at, kept-place, stores-low, written-links, written-other, written-request}
 use Rattle.desk.proofs.Views.{board-same, does, waiting-on, waiting-changed, same-freezes, request-others, active-others, finished-others}
 use Rattle.desk.proofs.Held.{held-live, none-free, one-free}
@@ -157,15 +157,16 @@ turned-away m r s n e =
 
 -- and all that it promises
 refuses : (m s : List ℕ) (given n : ℕ) → ((clock : ℕ) (mark : Unit) → let r = the-rest clock mark given in Valid m r → verdict (view m r) s ≡ refuse n)
-    → TakesIn m m s (with-status n s) given given (refused n)
+    → Takes-in m m s (with-status n s) given given (refused n)
 refuses m s given n e = record {
   does = λ clock mark. turned-away m (the-rest clock mark given) s n (e clock mark);
   byte-7 = λ k z. let y : n ≡ k = cc in ap (λ i. with-status i s) y;
+  no-ticket = λ k z. refl;
   size = status-size n s;
 }
 
 -- checks 1 to 8: one of them applies
-pub block-refuses : (m : List ℕ) (t : Ticket) (s : List ℕ) (given n : ℕ) → examined t s ≡ checked.refused n → TakesIn m m s (with-status n s) given given (refused n)
+pub block-refuses : (m : List ℕ) (t : Ticket) (s : List ℕ) (given n : ℕ) → examined t s ≡ checked.refused n → Takes-in m m s (with-status n s) given given (refused n)
 block-refuses m t s given n e = refuses m s given n (λ clock mark v. block-verdict (view m (the-rest clock mark given)) t s n e)
 
 module _ (m : List ℕ) (t : Ticket) (s : List ℕ) (q : Request) (front : Bool) (given : ℕ) (p : Passes t s q front) where
@@ -175,15 +176,15 @@ module _ (m : List ℕ) (t : Ticket) (s : List ℕ) (q : Request) (front : Bool)
   words-verdict c d e r v hc hd he = board-verdict (view m r) t s q front p ∙ rw (sym (held-live m r v (q .address)) ∙ hc, hd, he)
 
   -- check 9 applies
-  pub address-refuses : held-to 32 m (q .address) ≡ true → TakesIn m m s (with-status 0x06 s) given given (refused 0x06)
+  pub address-refuses : held-to 32 m (q .address) ≡ true → Takes-in m m s (with-status 0x06 s) given given (refused 0x06)
   address-refuses h = refuses m s given 0x06 (λ clock mark v. words-verdict true _ _ (the-rest clock mark given) v h refl refl)
 
   -- check 10 applies
-  pub ticket-refuses : held-to 32 m (q .address) ≡ false → last-ticket ≤ given → TakesIn m m s (with-status 0x05 s) given given (refused 0x05)
+  pub ticket-refuses : held-to 32 m (q .address) ≡ false → last-ticket ≤ given → Takes-in m m s (with-status 0x05 s) given given (refused 0x05)
   ticket-refuses h l = refuses m s given 0x05 (λ clock mark v. words-verdict false true _ (the-rest clock mark given) v h (when-at-most l) refl)
 
   -- check 11 applies
-  pub places-refuse : held-to 32 m (q .address) ≡ false → given < last-ticket → 32 ≤ head m 0 → TakesIn m m s (with-status 0x05 s) given given (refused 0x05)
+  pub places-refuse : held-to 32 m (q .address) ≡ false → given < last-ticket → 32 ≤ head m 0 → Takes-in m m s (with-status 0x05 s) given given (refused 0x05)
   places-refuse h l f =
       refuses m s given 0x05
       (λ clock mark v. words-verdict false false true (the-rest clock mark given) v h (unless-at-most l) (when-at-most (none-free m (the-rest clock mark given) v f)))
@@ -285,7 +286,7 @@ step-taken b t s q front p n e = ap (judged b s) e ∙ rw (p .asks, p .at-front,
 -- taking in, where every check was passed
 pub taken-in : (m : List ℕ) (t : Ticket) (s : List ℕ) (q : Request) (front : Bool) (given : ℕ) → Passes t s q front → Request-fits q
     → held-to 32 m (q .address) ≡ false → given < last-ticket → head m 0 < 32 → t .0 ≡ suc given
-    → TakesIn m (entered m (head m 0) q front) s (with-status 0x00 s) given (t .0) (taken t)
+    → Takes-in m (entered m (head m 0) q front) s (with-status 0x00 s) given (t .0) (taken t)
 unfolding view request
 taken-in m t s q front given p fits h l f n = record {
   does = λ clock mark.
@@ -299,5 +300,6 @@ taken-in m t s q front given p fits h l f n = record {
       (λ v. sym (ap (λ z. z .lent) (stepped v)))
       (λ k z. let y : _≡_ {A = ℕ} 0 1 = cc in absurd (omega arith));
   byte-7 = λ k z. let y : _≡_ {A = ℕ} 0 1 = cc in absurd (omega arith);
+  no-ticket = λ k z. let y : _≡_ {A = ℕ} 0 1 = cc in absurd (omega arith);
   size = status-size 0x00 s;
 }

@@ -2,9 +2,13 @@
 use Prim.Native.Nat.{ℕ}
 use mathlib.Core.Path.{_≡_}
 use mathlib.Core.List.{List}
+use lib.ListN.{length}
+use Rattle.board.specs.declared.Unit.{Unit}
 use Rattle.board.specs.Answers.{Answer, refused}
-use Rattle.board.specs.Calls.{Call, hand-back, step}
-use Rattle.desk.specs.View.{Rest, view, Valid}
+use Rattle.board.specs.Block.{with-status}
+use Rattle.board.specs.Board.{the-unit, fresh}
+use Rattle.board.specs.Calls.{Call, take-in, hand-back, step}
+use Rattle.desk.specs.View.{Rest, the-rest, view, Valid}
 
 -- From the words m and the rest r to m' and r', by this call, with this answer, the lent block's bytes being s' then. A valid memory
 -- stays valid; the board that it shows, the answer and the bytes are `step`'s. And of EVERY memory, whatever it holds: a refusal leaves
@@ -20,3 +24,17 @@ pub record Does (m m' : List ℕ) (r r' : Rest) (c : Call) (a : Answer) (s' : Li
 pub record Hands-back (m m' s s' : List ℕ) (a : Answer) : Type 0 where
   pub does : (r : Rest) → Does m m' r r (hand-back s) a s'
   pub unwritten : (n : ℕ) → a ≡ refused n → s' ≡ s
+
+-- Taking in, from the words m, the lent bytes s and the last ticket given to m', s' and given', with this answer: `step`, whatever the
+-- clock and the mark. And of EVERY memory, whatever it holds: a refusal writes its number to byte 7 and nothing else, and gives no
+-- ticket; no byte is added.
+pub record Takes-in (m m' s s' : List ℕ) (given given' : ℕ) (a : Answer) : Type 0 where
+  pub does : (clock : ℕ) (mark : Unit) → Does m m' (the-rest clock mark given) (the-rest clock mark given') (take-in s) a s'
+  pub byte-7 : (n : ℕ) → a ≡ refused n → s' ≡ with-status n s
+  pub no-ticket : (n : ℕ) → a ≡ refused n → given' ≡ given
+  pub size : length s' ≡ length s
+
+-- A fresh board: with clock 0, mark 63 and no ticket given, the words are valid and show a fresh board.
+pub record Fresh (m : List ℕ) : Type 0 where
+  pub valid : Valid m (the-rest 0 (the-unit 63) 0)
+  pub board : view m (the-rest 0 (the-unit 63) 0) ≡ fresh

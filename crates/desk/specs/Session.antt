@@ -17,8 +17,7 @@ use Rattle.board.specs.Sending.{busy}
 use Rattle.board.specs.Calls.{Call, send, event, freeze, release, reset, step, Ran, run}
 use Rattle.board.specs.Demand3.{Accounted, Freezes, Not-a-release, Not-sent-for, Same-but-freeze, Same-records, thinned}
 use Rattle.desk.specs.View.{Rest, the-rest, view, Valid}
-use Rattle.desk.specs.Begins.{Fresh}
-use Rattle.desk.specs.Promise.{Does}
+use Rattle.desk.specs.Promise.{Does, Fresh}
 
 -- from the words m and the rest r, by these calls, with these answers and these lent blocks' bytes, to m' and r'
 pub data Session (m' : List ℕ) (r' : Rest) : List ℕ → Rest → List Call → List Answer → List (List ℕ) → Type 0 where

@@ -33,13 +33,13 @@ ghost use Rattle.board.specs.Sending.{rotation};
 ghost use Rattle.rows.specs.Words.{head};
 ghost use Rattle.desk.specs.Words.{bit, written, freeze-at, Freeze-set, busy-from, can-send, launched, closed, Told-fits, finished-words, frozen-if, unit-at};
 ghost use Rattle.desk.specs.Aborts.{stands, Waits-on, aborted-told, aborted-words, asked-words};
-ghost use Rattle.desk.specs.TakingIn.{held-to, entered, TakesIn};
+ghost use Rattle.desk.specs.TakingIn.{held-to, entered};
 ghost use Rattle.desk.specs.Events.{closing-of, Reported};
 ghost use Rattle.desk.specs.View.{request-at, active-at, finished-at, Rest, the-rest};
-ghost use Rattle.desk.specs.Begins.{cleared, Fresh};
+ghost use Rattle.desk.specs.Begins.{cleared};
 ghost use Rattle.desk.specs.Ticking.{marked, marked-from};
 ghost use Rattle.desk.specs.Resets.{reset-told, reset-words, smallest-spot, Smallest-ended};
-ghost use Rattle.desk.specs.Promise.{Does, Hands-back};
+ghost use Rattle.desk.specs.Promise.{Does, Hands-back, Takes-in, Fresh};
 
 fn wide(x: u32) -> usize
     ensures { λ r. ⌜ r ≡ x ⌝ }
@@ -205,7 +205,7 @@ fn refuse(block: &mut [u8], why: Refusal, given: u32) -> Took
 
 // Take a request in: checks 1 to 8 on the block, 9 to 11 on the board, first that applies; else it gets the next ticket.
 pub fn take_in(mem: &mut [u32; WORDS], block: &mut [u8], given: u32) -> Took
-    ensures { λ r. ⌜ TakesIn (now (mem .entry)) (now (mem .exit)) (now (block .entry)) (now (block .exit)) given (r .given) (taking-in-says (r .answer)) ⌝ }
+    ensures { λ r. ⌜ Takes-in (now (mem .entry)) (now (mem .exit)) (now (block .entry)) (now (block .exit)) given (r .given) (taking-in-says (r .answer)) ⌝ }
 {
     let ticket = Ticket(std::num::wrapping_add_u32(given, 1));
     match block::examine(block, ticket) {
