@@ -41,12 +41,14 @@ ghost use Rattle.desk.specs.Ticking.{marked, marked-from};
 ghost use Rattle.desk.specs.Resets.{reset-told, reset-words, smallest-spot, Smallest-ended};
 ghost use Rattle.desk.specs.Promise.{Does, Hands-back, Takes-in, Fresh};
 
+// A word as an index.
 fn wide(x: u32) -> usize
     ensures { λ r. ⌜ r ≡ x ⌝ }
 {
     x as usize
 }
 
+// A byte as an index.
 fn wide8(x: u8) -> usize
     ensures { λ r. ⌜ r ≡ x ⌝ }
 {

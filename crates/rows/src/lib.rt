@@ -27,6 +27,7 @@ pub enum Spot {
     Nowhere,
 }
 
+// A word as an index.
 fn wide(x: u32) -> usize
     ensures { λ r. ⌜ r ≡ x ⌝ }
 {
