@@ -56,25 +56,15 @@ pub record Kept (b : Board) (a : Answer) (d : Board) : Type 0 where
   pub given : d .given ≡ length came + b .given
 
 -- an answer that gives nothing and hands nothing back
-idle-gives : {a : Answer} → Idle a → [] ≡ given-by a
-unfolding given-by
-idle-gives (idle-refused n) = refl
-idle-gives (idle-nothing n) = refl
-idle-gives idle-done = refl
-idle-gives (idle-before n) = refl
-idle-gives (idle-time n) = refl
-idle-gives (idle-first t address callback wanted) = refl
-idle-gives idle-empty = refl
-
-idle-hands : {a : Answer} → Idle a → [] ≡ handed-by a
-unfolding handed-by
-idle-hands (idle-refused n) = refl
-idle-hands (idle-nothing n) = refl
-idle-hands idle-done = refl
-idle-hands (idle-before n) = refl
-idle-hands (idle-time n) = refl
-idle-hands (idle-first t address callback wanted) = refl
-idle-hands idle-empty = refl
+idle-neither : {a : Answer} → Idle a → ([] ≡ given-by a) × ([] ≡ handed-by a)
+unfolding given-by handed-by
+idle-neither (idle-refused n) = (refl, refl)
+idle-neither (idle-nothing n) = (refl, refl)
+idle-neither idle-done = (refl, refl)
+idle-neither (idle-before n) = (refl, refl)
+idle-neither (idle-time n) = (refl, refl)
+idle-neither (idle-first t address callback wanted) = (refl, refl)
+idle-neither idle-empty = (refl, refl)
 
 -- a move by which nobody comes and nobody goes
 kept-steady : (b : Board) (a : Answer) (d : Board) → ((g : Request → ℕ) → mass g d ≡ mass g b) → Home d → [] ≡ given-by a → [] ≡ handed-by a → d .given ≡ b .given → Kept b a d
@@ -217,7 +207,7 @@ kept-hands-back b x more e h = record {
 
 pub kept : {b : Board} {c : Call} {a : Answer} {d : Board} → Move b c a d → Home b → Kept b a d
 unfolding given-by handed-by
-kept {b} (stays a i) h = kept-steady b a b (λ g. refl) h (idle-gives i) (idle-hands i) refl
+kept {b} (stays a i) h = kept-steady b a b (λ g. refl) h (idle-neither i .0) (idle-neither i .1) refl
 kept {b} (joins q front j) h = kept-joins b q front j h
 kept {b} (goes u q more n g e) h = kept-goes b u q more n (g .unit) e h
 kept {b} (ends a e k r) h = kept-ends b a e k h
@@ -227,7 +217,7 @@ kept {b} (marks f e s now k a i) h =
     (λ g. let p = weigh-map (λ x. g (x .request)) f (b .active) in
     let q = weigh-same (λ x. g (f x .request)) (λ x. g (x .request)) (λ x. ap g (e x)) (b .active) in
     omega arith)
-    h (idle-gives i) (idle-hands i) refl
+    h (idle-neither i .0) (idle-neither i .1) refl
 kept {b} (freezes u) h = kept-steady b _ _ (λ g. refl) h refl refl refl
 kept {b} (releases u e) h = kept-steady b _ _ (λ g. refl) h refl refl refl
 kept {b} resets h = kept-resets b h

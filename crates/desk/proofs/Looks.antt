@@ -1,7 +1,7 @@
 -- A look at the finished line, on the words. Assumes nothing.
 use Prim.Native.Nat.{ℕ, _<_, _≤_}
 use native.Mathlib.Omega.{arith}
-use mathlib.Core.Path.{_≡_, refl, sym, ap}
+use mathlib.Core.Path.{_≡_, ap}
 use mathlib.Core.List.{List, [], _∷_, map}
 use Rattle.board.specs.Answers.{first, empty}
 use Rattle.board.specs.Calls.{first-of, looking, look, step}
@@ -9,7 +9,7 @@ use Rattle.rows.specs.Words.{head}
 use Rattle.rows.proofs.Shown.{row-none, row-some}
 use Rattle.desk.specs.View.{request-at, finished-at, finished-row, Rest, view, Valid}
 use Rattle.desk.specs.Promise.{Does}
-use Rattle.desk.proofs.Views.{does}
+use Rattle.desk.proofs.Views.{unchanged}
 
 -- the finished line is empty where its row's head says so
 pub line-empty : (m : List ℕ) (r : Rest) → 32 ≤ head m finished-row → Valid m r → view m r .finished ≡ []
@@ -23,19 +23,9 @@ line-first m r h v = ap (map (finished-at m)) (row-some m (v .rows) 1 (omega ari
 
 pub look-empty : (m : List ℕ) (r : Rest) → 32 ≤ head m finished-row → Does m m r r look empty []
 unfolding step looking first-of
-look-empty m r h =
-    does (λ v. v .rows)
-    (λ v. sym (ap (λ l. first-of (view m r) l .board) (line-empty m r h v)))
-    (λ v. sym (ap (λ l. first-of (view m r) l .answer) (line-empty m r h v)))
-    (λ v. sym (ap (λ l. first-of (view m r) l .lent) (line-empty m r h v)))
-    (λ n e. refl)
+look-empty m r h = unchanged empty [] (λ v. ap (first-of (view m r)) (line-empty m r h v))
 
 pub look-first : (m : List ℕ) (r : Rest) → head m finished-row < 32
     → let q = request-at m (head m finished-row) in Does m m r r look (first (q .ticket) (q .address) (q .callback) (q .wanted)) []
 unfolding step looking first-of
-look-first m r h =
-    does (λ v. v .rows)
-    (λ v. sym (ap (λ l. first-of (view m r) l .board) (line-first m r h v)))
-    (λ v. sym (ap (λ l. first-of (view m r) l .answer) (line-first m r h v)))
-    (λ v. sym (ap (λ l. first-of (view m r) l .lent) (line-first m r h v)))
-    (λ n e. refl)
+look-first m r h = unchanged _ [] (λ v. ap (first-of (view m r)) (line-first m r h v))

@@ -10,7 +10,7 @@ use Rattle.board.specs.declared.Sense.the-variants.{None}
 use Rattle.board.specs.declared.Event.the-variants.{Complete}
 use Rattle.board.specs.Board.{the-ticket, the-unit, fresh}
 use Rattle.board.specs.Answers.{Answer, taken, sent, done, first, handed}
-use Rattle.board.specs.Calls.{Call, Ran, take-in, send, event, look, hand-back, run}
+use Rattle.board.specs.Calls.{Call, take-in, send, event, look, hand-back, run}
 use Rattle.board.specs.Bench.{last}
 use Rattle.board.proofs.Open.{all}
 use Rattle.desk.specs.View.{Rest, the-rest}
