@@ -1,0 +1,4 @@
+-- Laws of slots.
+pub mod Slotted
+pub mod Copied
+pub mod Counted
