@@ -60,7 +60,7 @@ pub record Elsewhere (i : ℕ) (store store' : List ℕ) : Type 0 where
   pub size : length store' ≡ length store
   pub same-bytes : (k : ℕ) → (200 * i ≤ k → k < 200 * i + 200 → ⊥) → getD store' k 0 ≡ getD store k 0
 
-sets-off : (vs l : List ℕ) (a k : ℕ) → (a ≤ k → k < a + length vs → ⊥) → getD (sets l a vs) k 0 ≡ getD l k 0
+pub sets-off : (vs l : List ℕ) (a k : ℕ) → (a ≤ k → k < a + length vs → ⊥) → getD (sets l a vs) k 0 ≡ getD l k 0
 sets-off [] l a k f = refl
 sets-off (v ∷ vs) l a k f =
     sets-off vs (set l a v) (suc a) k (λ h g. f (omega arith) (omega arith)) ∙ getD-set-other l a k v 0 (λ e. f (omega arith) (omega arith))
@@ -93,6 +93,19 @@ elsewhere-bytes i j n store store' e d h =
 
     apart : {k : ℕ} → 200 * i ≤ 200 * j + k → 200 * j + k < 200 * i + 200 → k < n → ⊥
     apart g o lk = d (omega arith)
+
+-- what lies outside the room of a ticket's slot lies outside its copy
+pub outside-copy : (book : List ℕ) (t k : ℕ) → (200 * slot-of book t ≤ k → k < 200 * slot-of book t + 200 → ⊥) → lies book t .at ≤ k → k < lies book t .at + lies book t .length → ⊥
+outside-copy book t k f = by-cases (t =? 0)
+    (λ z. rw (lies-free book t (same z)) (λ g l. omega arith))
+    (λ z. rw (lies-at book t (slot-of book t) (differ z) refl) (inside (slot-of book t) f))
+  where
+    inside : (i : ℕ) → (200 * i ≤ k → k < 200 * i + 200 → ⊥) → lies-in book i .at ≤ k → k < lies-in book i .at + lies-in book i .length → ⊥
+    inside i f = by-cases (32 ≤? i)
+        (λ h. rw (lies-missing book i (at-most h)) (λ g l. omega arith))
+        (λ h. by-cases (200 <? length-in book i)
+        (λ o. rw (lies-long book i (not-at-most h) (below o)) (λ g l. omega arith))
+        (λ o. rw (lies-there book i (not-at-most h) (not-below o)) (λ g l. let n : length-in book i ≤ 200 = not-below o in f g (omega arith))))
 
 -- ---- the copies
 
@@ -140,13 +153,18 @@ own-copy book store block i t n l k f g h e =
     only {r} (finds z o m) = by-cases (r =? i) (λ s. same s) (λ s. absurd (f r (differ s) o m))
     only {r} (finds-none z o) = absurd (o i (omega arith) l k)
 
+-- the number of a free slot is no ticket
+pub free-ticket : (book store : List ℕ) (t : Ticket) → t .0 ≡ 0 → copy-of book store t ≡ []
+unfolding copy-of
+free-ticket book store t z = rw (lies-free book (t .0) z) refl
+
 -- a ticket that no slot has
-pub no-copy : (book store : List ℕ) (t : Ticket) → ((j : ℕ) → j < 32 → number-in book j ≢ t .0) → copy-of book store t ≡ []
+pub no-copy : (book store : List ℕ) (t : Ticket) → (t .0 ≢ 0 → (j : ℕ) → j < 32 → number-in book j ≢ t .0) → copy-of book store t ≡ []
 unfolding copy-of
 no-copy book store t f = by-cases (t .0 =? 0)
-    (λ z. rw (lies-free book (t .0) (same z)) refl)
-    (λ z. rw (lies-at book (t .0) 32 (differ z) (sym (none (finds-slot book (t .0)))), lies-missing book 32 (omega arith)) refl)
+    (λ z. free-ticket book store t (same z))
+    (λ z. rw (lies-at book (t .0) 32 (differ z) (sym (none (differ z) (finds-slot book (t .0)))), lies-missing book 32 (omega arith)) refl)
   where
-    none : {r : ℕ} → Finds book (t .0) 0 r → r ≡ 32
-    none {r} (finds z o m) = absurd (f r o m)
-    none (finds-none z o) = z
+    none : t .0 ≢ 0 → {r : ℕ} → Finds book (t .0) 0 r → r ≡ 32
+    none n {r} (finds z o m) = absurd (f n r o m)
+    none n (finds-none z o) = z

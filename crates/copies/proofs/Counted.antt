@@ -58,7 +58,7 @@ passing-all (suc n) test book f =
     let q = passing-all n test book (λ i h. f i (omega arith)) in
     omega arith
 
-passing-nobody : (n : ℕ) (test : ℕ → Bool) (book : List ℕ) → ((i : ℕ) → i < n → test (number-in book i) ≡ false) → slots-passing n test book ≡ 0
+pub passing-nobody : (n : ℕ) (test : ℕ → Bool) (book : List ℕ) → ((i : ℕ) → i < n → test (number-in book i) ≡ false) → slots-passing n test book ≡ 0
 unfolding slots-passing
 passing-nobody zero test book f = refl
 passing-nobody (suc n) test book f =
