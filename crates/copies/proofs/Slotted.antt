@@ -7,7 +7,7 @@ use mathlib.Core.Logic.{_≢_}
 use mathlib.Core.Bool.{true, false, _&&_}
 use mathlib.Core.List.{List, [], _∷_, _++_}
 use lib.ListN.{length, getD, set, take, drop}
-use lib.Seq.{sets, drop-cons, drop-length}
+use lib.Seq.{sets, length-sets, drop-cons, drop-length}
 use Rattle.board.specs.Plain.{if_then_else_, _=?_, _<?_, _≤?_}
 use Rattle.board.proofs.Choose.{if-ind, same, differ, at-most, not-at-most, when-at-most, unless-at-most, when-below, unless-below}
 use Rattle.copies.specs.Slots.{number-in, length-in, slot-from, slot-of, nowhere, lies-in, lies, pasted, can-keep, noted, store-with, forgotten}
@@ -116,3 +116,7 @@ lies-long book i h k = rw (unless-at-most h, when-below k) refl
 pub lies-there : (book : List ℕ) (i : ℕ) → i < 32 → length-in book i ≤ 200 → lies-in book i ≡ record { at = 200 * i; length = length-in book i }
 unfolding lies-in
 lies-there book i h k = rw (unless-at-most h, unless-below k) refl
+
+pub pasted-size : (dst src : List ℕ) (at : ℕ) → length (pasted dst at src) ≡ length dst
+unfolding pasted
+pasted-size dst src at = if-ind (λ (x : List ℕ). length x ≡ length dst) (at + length src ≤? length dst) (sets dst at src) dst (λ e. length-sets dst at src) (λ e. refl)
