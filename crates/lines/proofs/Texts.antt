@@ -1,7 +1,7 @@
 -- Laws of the text of a line, each in the form in which a loop over the bytes asks for it. Assumes nothing.
-use Prim.Native.Nat.{ℕ, _+_, _*_, _-_, _/_, _≤_, _<_}
-use mathlib.Core.Path.{_≡_, refl, sym, ap, _∙_}
-use mathlib.Core.Bool.{Bool, true, false, _&&_}
+use Prim.Native.Nat.{ℕ, zero, suc, _+_, _*_, _-_, _/_, _%_, _≤_, _<_}
+use mathlib.Core.Path.{_≡_, refl, sym, ap, _∙_, subst}
+use mathlib.Core.Bool.{Bool, true, false, _&&_, _||_}
 use mathlib.Core.List.{List, [], _∷_, _++_, append-assoc, append-nil}
 use native.Mathlib.Omega.{arith}
 use native.Mathlib.Numerals.{add-one}
@@ -11,7 +11,8 @@ use lib.Seq.{drop-cons, take-suc, sets}
 use lib.Dec.{eqb}
 use Rattle.lines.specs.Text.{more, number, fields, onto, Cut, is-hex, hex-digit, all-hex, bytes, code}
 use Rattle.lines.specs.Record.{Record, malformed, only, kind, code-kind, sense, sense-bytes}
-use Rattle.board.specs.Plain.{if_then_else_}
+use Rattle.board.specs.Plain.{if_then_else_, _≤?_}
+use Rattle.board.proofs.Choose.{by-cases, both, at-most}
 use Rattle.board.specs.declared.Event.the-variants.{AbortDone}
 use Rattle.lines.specs.declared.Kind.the-variants.{Plain, Completed, NoKind}
 use Rattle.board.specs.declared.Sense.the-variants.{Failed, None}
@@ -326,3 +327,22 @@ unfolding number
 number-tab [] h = refl
 number-tab (c ∷ []) h = more-tab 0 (c ∷ []) h
 number-tab (c ∷ d ∷ ds) h = rw (more-tab 0 (c ∷ d ∷ ds) h, same)
+
+-- ---- the value of a hex digit, in one sum
+
+abbrev sum-of : ℕ → ℕ
+sum-of c = c % 16 + 9 * (c / 64)
+
+pub digit-value : (c : ℕ) → is-hex c ≡ true → (sum-of c ≡ hex-digit c) × (sum-of c < 16)
+unfolding hex-digit
+digit-value c h = by-cases (48 ≤? c && c ≤? 57)
+    (λ e. let l = both (48 ≤? c) (c ≤? 57) e in let a : 48 ≤ c = at-most (l .0) in let b : c ≤ 57 = at-most (l .1) in rw e (omega arith, omega arith))
+    (λ e. let f : (65 ≤? c && c ≤? 70) ≡ true = subst (λ x. (x || (65 ≤? c && c ≤? 70)) ≡ true) e h in
+    let l = both (65 ≤? c) (c ≤? 70) f in let a : 65 ≤ c = at-most (l .0) in let b : c ≤ 70 = at-most (l .1) in rw (e, f) (omega arith, omega arith))
+
+-- a digit of many
+pub hex-at : (s : List ℕ) (i : ℕ) → all-hex s ≡ true → i < length s → is-hex (getD s i 0) ≡ true
+unfolding all-hex
+hex-at [] i h l = absurd (omega arith)
+hex-at (c ∷ s) zero h l = both (is-hex c) (all-hex s) h .0
+hex-at (c ∷ s) (suc i) h l = hex-at s i (both (is-hex c) (all-hex s) h .1) (omega arith)

@@ -3,6 +3,7 @@ use board::Event;
 use board::Sense;
 use board::Ticket;
 ghost use mathlib.Core.Path.{_≡_};
+ghost use mathlib.Core.Bool.{true};
 ghost use mathlib.Core.List.{[]};
 ghost use Prim.Native.Nat.{_≤_, _<_};
 ghost use lib.ListN.{length};
@@ -118,22 +119,13 @@ fn is_hex(c: u8) -> bool
     ((b'0' <= c) & (c <= b'9')) | ((b'A' <= c) & (c <= b'F'))
 }
 
-// The value of a hex digit; 0 for any other byte.
+// The value of a hex digit. With no branch in it, so that a whole block is decoded many digits at a time.
 fn hex_digit(c: u8) -> u8
+    requires { ⌜ is-hex c ≡ true ⌝ }
     ensures value { λ r. ⌜ r ≡ hex-digit c ⌝ }
     ensures small { λ r. ⌜ r < 16 ⌝ }
 {
-    if b'0' <= c {
-        if c <= b'9' {
-            return c - b'0';
-        }
-        if b'A' <= c {
-            if c <= b'F' {
-                return 10 + (c - b'A');
-            }
-        }
-    }
-    0
+    c % 16 + 9 * (c / 64)
 }
 
 // A code: two hex digits.
@@ -346,7 +338,7 @@ fn all_hex(s: &[u8]) -> bool
 
 // The bytes that these hex digits make, two to a byte, to the start of the lent array.
 fn decode(s: &[u8], block: &mut [u8; 200])
-    requires { ⌜ length (now s) ≤ 400 ⌝ }
+    requires { ⌜ (length (now s) ≤ 400) × (all-hex (now s) ≡ true) ⌝ }
     ensures { λ _. ⌜ now (block .exit) ≡ sets (now (block .entry)) 0 (bytes (now (s .entry))) ⌝ }
 {
     let n = s.len() / 2;

@@ -1,7 +1,7 @@
 -- `lines::decode` meets its contract. Assumes nothing.
 use lib.ListN.{length, drop}
 use Prim.Native.Nat.{_≤_, _<_, _-_, _*_, _+_}
-use Rattle.lines.proofs.Texts.{decode-next, decode-end}
+use Rattle.lines.proofs.Texts.{decode-next, decode-end, hex-at}
 use Rattle.lines.specs.Text.{bytes}
 use lib.Seq.{sets}
 use mathlib.Core.Path.{_≡_, refl, sym, _∙_}
@@ -26,7 +26,7 @@ shared-slice-read-hex-digit : tie.Need-shared-slice-read-hex-digit Inv-loop μ-l
 shared-slice-read-hex-digit c = search needs
 
 hex-digit-requires : tie.Need-hex-digit-requires Inv-loop μ-loop
-hex-digit-requires c κs = search needs
+hex-digit-requires c κs = let o = c .before .before .loop in hex-at _ _ (c .before .before .before .before .pre .1) (omega arith)
 
 mul-block : tie.Need-mul-block Inv-loop μ-loop
 mul-block c = search needs
@@ -41,7 +41,7 @@ shared-slice-read-hex-digit-2 : tie.Need-shared-slice-read-hex-digit-2 Inv-loop 
 shared-slice-read-hex-digit-2 c = search needs
 
 hex-digit-requires-2 : tie.Need-hex-digit-requires-2 Inv-loop μ-loop
-hex-digit-requires-2 c κs = search needs
+hex-digit-requires-2 c κs = let o = c .before .before .before .before .loop in hex-at _ _ (c .before .before .before .before .before .before .pre .1) (omega arith)
 
 add-block : tie.Need-add-block Inv-loop μ-loop
 add-block c = search needs

@@ -1,5 +1,7 @@
 -- `lines::read_code` meets its contract. Assumes nothing.
 use Rattle.lines.proofs.Texts.{code-right, code-wrong, code-other}
+use mathlib.Core.Path.{sym, _∙_}
+use Rattle.board.proofs.Choose.{both}
 use borrow.Author.Needs.{needs}
 use Rattle.lines.proofs.read_code.Statement.{statement}
 use Rattle.lines.proofs.read_code.Tie as tie
@@ -20,13 +22,13 @@ is-hex-requires-2 : tie.Need-is-hex-requires-2
 is-hex-requires-2 c κs = search needs
 
 hex-digit-requires : tie.Need-hex-digit-requires
-hex-digit-requires c κs = search needs
+hex-digit-requires c κs = sym (c .before .before .is-hex .ensures) ∙ both (c .before .before .is-hex .result) (c .before .is-hex2 .result) (c .if2 .taken) .0
 
 mul-t13 : tie.Need-mul-t13
 mul-t13 c = search needs
 
 hex-digit-requires-2 : tie.Need-hex-digit-requires-2
-hex-digit-requires-2 c κs = search needs
+hex-digit-requires-2 c κs = sym (c .before .before .is-hex2 .ensures) ∙ both (c .before .before .before .is-hex .result) (c .before .before .is-hex2 .result) (c .before .if2 .taken) .1
 
 add-t15 : tie.Need-add-t15
 add-t15 c = search needs
