@@ -4,3 +4,4 @@ pub mod Keeping
 pub mod Replying
 pub mod Lending
 pub mod Blocks
+pub mod Examples

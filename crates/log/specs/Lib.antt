@@ -3,3 +3,4 @@ pub mod Replay
 pub mod Memory
 pub mod Promise
 pub mod Parts
+pub mod Example
