@@ -3,15 +3,14 @@ use Prim.Native.Nat.{ℕ, zero, suc, _+_, _*_, _-_, _<_, _≤_, min}
 use native.Mathlib.Omega.{arith}
 use mathlib.Core.Path.{_≡_, refl, sym, ap, _∙_, subst}
 use mathlib.Core.Logic.{_≢_}
-use mathlib.Core.Bool.{Bool, true, false, not}
+use mathlib.Core.Bool.{false}
 use mathlib.Core.List.{List, [], _∷_, _++_, append-assoc}
-use lib.ListN.{length, getD, set, take, drop, length-set, length-take, length-drop}
-use lib.Seq.{sets, sets-eq, length-sets, length-take-le, take-at, drop-at, take-all, ext-getD, getD-take, getD-drop, getD-set-same, getD-set-other}
+use lib.ListN.{length, getD, set, take, drop, length-take, length-drop}
+use lib.Seq.{sets, sets-eq, length-sets, length-take-le, take-at, drop-at, ext-getD, getD-take, getD-drop, getD-set-other}
 use Rattle.board.specs.declared.Ticket.{Ticket}
-use Rattle.board.specs.Plain.{if_then_else_, _=?_, _<?_, _≤?_}
-use Rattle.board.proofs.Choose.{if-ind, by-cases, same, differ, refute, below, not-below, at-most, not-at-most}
-use Rattle.copies.specs.declared.Lies.{Lies}
-use Rattle.copies.specs.Slots.{number-in, length-in, slot-from, slot-of, nowhere, lies-in, lies, copy-of, slots-passing}
+use Rattle.board.specs.Plain.{_=?_, _<?_, _≤?_}
+use Rattle.board.proofs.Choose.{by-cases, same, differ, refute, below, not-below, at-most, not-at-most}
+use Rattle.copies.specs.Slots.{number-in, length-in, slot-from, slot-of, lies-in, lies, copy-of}
 use Rattle.copies.proofs.Slotted.{slot-next, slot-here, lies-free, lies-at, lies-missing, lies-there, lies-long}
 
 pub unless-same : {m n : ℕ} → m ≢ n → (m =? n) ≡ false

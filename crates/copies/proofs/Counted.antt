@@ -1,14 +1,14 @@
 -- How many slots pass a test, before and after a store, and what that tells of a search. Assumes nothing.
 use Prim.Native.Nat.{ℕ, zero, suc, _+_, _<_, _≤_}
 use native.Mathlib.Omega.{arith}
-use mathlib.Core.Path.{_≡_, refl, sym, ap, _∙_, subst}
+use mathlib.Core.Path.{_≡_, refl, sym, ap, subst}
 use mathlib.Core.Logic.{_≢_}
 use mathlib.Core.Bool.{Bool, true, false, not}
 use mathlib.Core.List.{List}
-use lib.ListN.{length, getD, set}
+use lib.ListN.{length, set}
 use lib.Seq.{getD-set-same, getD-set-other}
 use Rattle.board.specs.Plain.{if_then_else_, _=?_}
-use Rattle.board.proofs.Choose.{if-ind, by-cases, same, differ, itself, true≢false}
+use Rattle.board.proofs.Choose.{by-cases, same, differ}
 use Rattle.copies.specs.Slots.{number-in, slot-of, slots-passing}
 use Rattle.copies.proofs.Copied.{unless-same, Finds, finds, finds-none, finds-slot}
 

@@ -1,12 +1,11 @@
 -- Laws of slots and copies. Assumes nothing.
-use Prim.Native.Nat.{ℕ, zero, suc, _+_, _*_, _-_, _<_, _≤_}
+use Prim.Native.Nat.{ℕ, suc, _+_, _*_, _-_, _<_, _≤_}
 use native.Mathlib.Omega.{arith}
-use native.Mathlib.Numerals.{add-one}
 use mathlib.Core.Path.{_≡_, refl, sym, ap, _∙_, subst}
 use mathlib.Core.Logic.{_≢_}
 use mathlib.Core.Bool.{true, false, _&&_}
-use mathlib.Core.List.{List, [], _∷_, _++_}
-use lib.ListN.{length, getD, set, take, drop}
+use mathlib.Core.List.{List}
+use lib.ListN.{length, getD, set, drop}
 use lib.Seq.{sets, length-sets, drop-cons, drop-length}
 use Rattle.board.specs.Plain.{if_then_else_, _=?_, _<?_, _≤?_}
 use Rattle.board.proofs.Choose.{if-ind, same, differ, at-most, not-at-most, when-at-most, unless-at-most, when-below, unless-below}

@@ -1,13 +1,12 @@
 -- Bytes fed to a replay, a line at a time. Assumes nothing.
 use Prim.Native.Nat.{ℕ, zero, suc, _+_, _-_, _<_, _≤_, min}
 use native.Mathlib.Omega.{arith}
-use native.Mathlib.Numerals.{add-one}
 use mathlib.Core.Path.{_≡_, refl, sym, ap, _∙_, subst}
 use mathlib.Core.Logic.{_≢_}
 use mathlib.Core.List.{List, [], _∷_, _++_, append-assoc, append-nil}
 use lib.ListN.{length, getD, take, drop, take-append-drop, length-drop}
 use lib.Seq.{take-all, take-nil, drop-cons, drop-drop, getD-take, getD-drop, length-take-le, take-append-add, take-append-le, sets-eq, length-sets}
-use Rattle.board.specs.Plain.{if_then_else_, _=?_, _≤?_}
+use Rattle.board.specs.Plain.{_=?_, _≤?_}
 use Rattle.board.proofs.Choose.{if-ind, by-cases, same, at-most, not-at-most}
 use Rattle.lines.specs.Record.{parse}
 use Rattle.answers.proofs.Written.{written}
@@ -16,8 +15,8 @@ use Rattle.copies.proofs.Slotted.{pasted-fits, pasted-size}
 use Rattle.log.specs.Replay.{State, answer}
 use Rattle.log.specs.Memory.{Memory, shown, Holds}
 use Rattle.log.specs.Promise.{Replies}
-use Rattle.feed.specs.Feeding.{Fed, after, fed, last-answer, Feeds, Ends}
-use Rattle.feed.specs.LineEnds.{Clear, Line-end, Appends, So-far}
+use Rattle.feed.specs.Feeding.{after, fed, last-answer, Feeds, Ends}
+use Rattle.feed.specs.LineEnds.{Clear, Appends, So-far}
 
 -- ---- bytes without a line feed, and a line
 

@@ -5,18 +5,16 @@ use mathlib.Core.Path.{_≡_, refl, sym, ap, _∙_, subst}
 use mathlib.Core.Logic.{_≢_}
 use mathlib.Core.Bool.{Bool, true, false}
 use mathlib.Core.List.{List, [], _∷_, _++_, append-assoc, append-nil}
-use lib.ListN.{length, take}
+use lib.ListN.{take}
 use lib.Seq.{take-take}
 use Rattle.board.specs.Plain.{if_then_else_, _=?_, Each}
 use Rattle.board.proofs.Choose.{if-ind, same, differ}
 use Rattle.board.proofs.Weigh.{each-append}
-use Rattle.lines.specs.Record.{parse}
 use Rattle.lines.proofs.Overlong.{parse-cut}
 use Rattle.answers.specs.Answer.{head}
 use Rattle.log.specs.Replay.{State, fresh-state, Answered, respond, answer, onto, lines, answers, replay}
 use Rattle.log.specs.Memory.{Memory, shown, Holds}
-use Rattle.log.specs.Promise.{Begins}
-use Rattle.feed.specs.Feeding.{Fed, after, fed, last-answer, Feeds, Ends, Through, over, turn, joined, Whole-log}
+use Rattle.feed.specs.Feeding.{Fed, after, fed, last-answer, Ends, Through, over, turn, joined, Whole-log}
 
 -- ---- fed at once
 

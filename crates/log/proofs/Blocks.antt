@@ -10,7 +10,6 @@ use Rattle.board.specs.declared.Ticket.{Ticket}
 use Rattle.board.specs.declared.Unit.{Unit}
 use Rattle.board.specs.declared.Told.{Told}
 use Rattle.board.specs.declared.Finished.{Finished}
-use Rattle.board.specs.declared.Refusal.{Refusal}
 use Rattle.board.specs.declared.TakingIn.{TakingIn}
 use Rattle.board.specs.declared.TakingIn.the-variants.{Taken, Refused}
 use Rattle.board.specs.declared.Looking.{Looking}
@@ -20,20 +19,19 @@ use Rattle.board.specs.declared.HandingBack.the-variants as handing-back
 use Rattle.board.specs.Plain.{if_then_else_, _=?_, count}
 use Rattle.board.specs.Board.{the-ticket, Board, with-finished}
 use Rattle.board.specs.Block.{with-told}
-use Rattle.board.specs.Answers.{Stepped, refused, taken, first, empty, handed, taking-in-says, looking-says, handing-back-says, number}
-use Rattle.board.specs.Calls.{Call, take-in, look, hand-back, step, first-of, looking, not-its-block, first-to, handing-back}
+use Rattle.board.specs.Answers.{Stepped, refused, taken, handed, taking-in-says, looking-says, handing-back-says, number}
+use Rattle.board.specs.Calls.{take-in, look, hand-back, step, first-of, looking, not-its-block, first-to, handing-back}
 use Rattle.board.specs.Demand3.{given-by, handed-by}
-use Rattle.board.specs.Limits.{Sound}
-use Rattle.board.proofs.Choose.{itself, if-ind}
+use Rattle.board.proofs.Choose.{itself}
 use Rattle.lines.specs.Record as record-of
 use Rattle.answers.specs.Letters.{S, H}
 use Rattle.answers.specs.Answer.{print}
 use Rattle.answers.specs.Put.{Put}
-use Rattle.copies.specs.Slots.{slot-of, slots-passing, lies, copy-of}
-use Rattle.copies.proofs.Copied.{unless-same, free-ticket, Elsewhere, outside-copy}
+use Rattle.copies.specs.Slots.{slots-passing, lies, copy-of}
+use Rattle.copies.proofs.Copied.{unless-same, free-ticket, outside-copy}
 use Rattle.copies.proofs.Counted.{used, has}
 use Rattle.desk.specs.View.{Rest, the-rest, view}
-use Rattle.desk.specs.Promise.{Does, Hands-back, Takes-in}
+use Rattle.desk.specs.Promise.{Does, Takes-in}
 use Rattle.log.specs.Replay.{copy-of-first, answered, respond}
 use Rattle.log.specs.Memory.{Memory, shown, Holds}
 use Rattle.log.specs.Promise.{Replies}

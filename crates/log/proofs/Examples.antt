@@ -1,9 +1,9 @@
 -- The definitions give document 01's example. Assumes nothing.
 use mathlib.Core.Path.{_≡_, refl}
 use Rattle.board.proofs.Open.{all}
-use Rattle.lines.specs.Text.{onto, fields, more, number, hex-digit, all-hex, are-bytes, bytes, code}
-use Rattle.lines.specs.Record.{named, kind, byte-sense, sense, event-rest, event-of, numbered, by-letter, record-of, parse}
-use Rattle.answers.specs.Answer.{digits, place-from, places, decimal, signed, hex-digit as hex-glyph, hex, refusal}
+use Rattle.lines.specs.Text.{onto, fields, more, number}
+use Rattle.lines.specs.Record.{numbered, by-letter, record-of, parse}
+use Rattle.answers.specs.Answer.{digits, place-from, places, decimal, hex, refusal}
 use Rattle.log.specs.Replay.{fresh-state, copies-after, answered, respond, lines, answers, replay}
 use Rattle.log.specs.Example.{example-input, example-output}
 

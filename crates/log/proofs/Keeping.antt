@@ -1,19 +1,19 @@
 -- What taking in and handing back do to the program's copies: the definition's copies, and a slot for each live request. Assumes nothing.
 use Prim.Native.Nat.{ℕ, _+_, _*_, _<_, _≤_}
 use native.Mathlib.Omega.{arith}
-use mathlib.Core.Path.{_≡_, refl, sym, ap, _∙_, subst, fun-ext}
+use mathlib.Core.Path.{_≡_, refl, sym, ap, _∙_, subst}
 use mathlib.Core.Logic.{_≢_}
-use mathlib.Core.Bool.{Bool, true, false}
-use mathlib.Core.List.{List, [], _∷_}
+use mathlib.Core.Bool.{Bool, false}
+use mathlib.Core.List.{List, []}
 use lib.ListN.{length, set, length-set}
 use lib.Seq.{getD-set-same, getD-set-other, length-sets, sets}
 use Rattle.board.specs.declared.Ticket.{Ticket}
 use Rattle.board.specs.declared.Told.{Told}
-use Rattle.board.specs.Plain.{if_then_else_, _=?_, _<?_, any, count}
+use Rattle.board.specs.Plain.{if_then_else_, _=?_, any, count}
 use Rattle.board.specs.Board.{same-ticket}
 use Rattle.board.specs.Answers.{Answer, taken, handed}
 use Rattle.board.specs.Demand3.{given-by, handed-by}
-use Rattle.board.proofs.Choose.{if-ind, by-cases, same, differ, itself, one-ticket}
+use Rattle.board.proofs.Choose.{by-cases, same, differ, itself, one-ticket}
 use Rattle.copies.specs.Slots.{number-in, length-in, slot-of, slots-passing, copy-of, noted, store-with, forgotten, pasted}
 use Rattle.copies.proofs.Slotted.{pasted-fits, kept-there, can-keep-it, forgotten-found}
 use Rattle.copies.proofs.Copied.{unless-same, free-ticket, Elsewhere, paste-elsewhere, paste-reads, other-copy, own-copy, no-copy}

@@ -1,9 +1,9 @@
 -- A part of the store that is lent comes back in its place. Assumes nothing.
 use Prim.Native.Nat.{ℕ, _+_, _-_, _<_, _≤_}
 use native.Mathlib.Omega.{arith}
-use mathlib.Core.Path.{_≡_, refl, sym, ap, _∙_, subst}
+use mathlib.Core.Path.{_≡_, sym, ap, _∙_, subst}
 use mathlib.Core.List.{List, _++_, append-assoc}
-use lib.ListN.{length, getD, take, drop, length-take, length-drop}
+use lib.ListN.{length, getD, take, drop, length-drop}
 use lib.Seq.{sets, sets-eq, length-sets, drop-drop, length-take-le, ext-getD, getD-take, getD-drop}
 use Rattle.board.specs.declared.HandingBack.{HandingBack}
 use Rattle.board.specs.Answers.{handing-back-says}

@@ -1,5 +1,5 @@
 -- A call on a memory that holds a state, and what the copies do then, is the definition's answer to a record. Assumes nothing.
-use Prim.Native.Nat.{ℕ, _+_, _<_, _≤_, min}
+use Prim.Native.Nat.{ℕ, _<_, _≤_, min}
 use native.Mathlib.Omega.{arith}
 use mathlib.Core.Path.{_≡_, refl, sym, ap, _∙_, subst, fun-ext}
 use mathlib.Core.Bool.{Bool, false}

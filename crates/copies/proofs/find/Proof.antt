@@ -1,8 +1,7 @@
 -- `copies::find` meets its contract. Assumes nothing.
-use Prim.Native.Nat.{ℕ, _<_, _≤_, _*_}
+use Prim.Native.Nat.{ℕ, _<_, _*_}
 use native.Mathlib.Omega.{arith}
 use mathlib.Core.Path.{sym, ap, _∙_, subst}
-use Rattle.copies.specs.declared.Lies.{Lies}
 use Rattle.copies.proofs.Slotted.{lies-free, lies-at, lies-missing, lies-long, lies-there}
 use borrow.Author.Needs.{needs}
 use Rattle.copies.proofs.find.Statement.{statement}

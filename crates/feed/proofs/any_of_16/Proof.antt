@@ -1,15 +1,13 @@
-use Rattle.feed.proofs.Clears.{clear-none, clear-one, clear-join, test-at, clear-all}
+-- `feed::any_of_16` meets its contract. After j turns, what the first j bytes showed. Assumes nothing.
+use Rattle.feed.proofs.Clears.{clear-none, test-at, clear-all}
 use Rattle.feed.specs.LineEnds.{Clear}
-use lib.ListN.{length}
 use mathlib.Core.Bool.{false}
-use mathlib.Core.Path.{_≡_, refl, sym, ap, _∙_}
-use Prim.Native.Nat.{ℕ, _≤_, _<_, _-_, _*_, _+_}
+use mathlib.Core.Path.{_≡_}
+use Prim.Native.Nat.{_≤_, _-_, _+_}
 use native.Mathlib.Omega.{arith}
 use borrow.Author.Needs.{needs}
 use Rattle.feed.proofs.any_of_16.Statement.{statement}
 use Rattle.feed.proofs.any_of_16.Tie as tie
-use Rattle.feed.proofs.any_of_16.Reads as reads
-use Rattle.feed.proofs.any_of_16.Lts as lts
 
 abbrev Inv-loop : tie.InvT-loop
 Inv-loop s i f₀ j₀ f j = (j ≤ 16) × (f ≡ false → Clear s i (i + j))

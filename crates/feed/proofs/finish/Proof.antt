@@ -1,6 +1,5 @@
 -- `feed::finish` meets its contract. Assumes nothing.
 use Prim.Native.Nat.{ℕ}
-use native.Mathlib.Omega.{arith}
 use mathlib.Core.Path.{_≡_, _∙_, ap}
 use lib.ListN.{length, take}
 use Rattle.feed.proofs.Lining.{take-least, ends-as}

@@ -1,5 +1,5 @@
 -- `feed::keep_over` meets its contract. After i turns i bytes are at the front. Assumes nothing.
-use Prim.Native.Nat.{ℕ, _+_, _-_, _≤_}
+use Prim.Native.Nat.{_+_, _-_, _≤_}
 use native.Mathlib.Omega.{arith}
 use mathlib.Core.Path.{_≡_}
 use Rattle.feed.proofs.Moving.{Moved, none-moved, one-moved, all-moved, cut-moved}

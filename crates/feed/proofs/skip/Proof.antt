@@ -1,16 +1,12 @@
-use Rattle.feed.proofs.Clears.{clear-none, clear-one, clear-join, test-at, clear-all}
+-- `feed::skip` meets its contract. Assumes nothing.
+use Rattle.feed.proofs.Clears.{clear-none, clear-join}
 use Rattle.feed.specs.LineEnds.{Clear}
 use lib.ListN.{length}
-use mathlib.Core.Bool.{false}
-use mathlib.Core.Path.{_≡_, refl, sym, ap, _∙_}
-use Prim.Native.Nat.{ℕ, _≤_, _<_, _-_, _*_, _+_}
+use Prim.Native.Nat.{_≤_, _-_}
 use native.Mathlib.Omega.{arith}
 use borrow.Author.Needs.{needs}
 use Rattle.feed.proofs.skip.Statement.{statement}
 use Rattle.feed.proofs.skip.Tie as tie
-use Rattle.feed.proofs.skip.Reads as reads
-use Rattle.feed.proofs.skip.Lts as lts
-use Rattle.feed.proofs.any_of_16.Reads as any-of-16-reads
 
 abbrev Inv-loop : tie.InvT-loop
 Inv-loop s from i₀ i = (from ≤ i) × (i ≤ length s) × Clear s from i

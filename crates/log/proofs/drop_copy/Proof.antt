@@ -1,17 +1,13 @@
+-- `log::drop_copy` meets its contract: at each return, the answer that was matched. Assumes nothing.
 use mathlib.Core.Path.{sym, ap, _∙_}
 use Rattle.log.specs.Parts.{book-without}
 use borrow.Author.Needs.{needs}
 use Rattle.log.proofs.drop_copy.Statement.{statement}
 use Rattle.log.proofs.drop_copy.Tie as tie
-use Rattle.log.proofs.drop_copy.Reads as reads
-use Rattle.log.proofs.drop_copy.Lts as lts
-use Rattle.copies.proofs.forget.Reads as forget-reads
 
--- src/lib.rt:218:31
 enum-known-answer : tie.Need-enum-known-answer
 enum-known-answer c = search needs
 
--- src/lib.rt:218:49
 forget-requires : tie.Need-forget-requires
 forget-requires c κs = search needs
 
@@ -21,15 +17,12 @@ enum-told c = search needs
 enum-told-2 : tie.Need-enum-told-2
 enum-told-2 c = search needs
 
--- src/lib.rt:214:1
 returns : tie.Need-returns
 returns c = c .forget .ensures ∙ sym (ap (λ a. book-without a (c .before .before .before .before .before .args .book .now)) (c .before .before .before .answer .given .1))
 
--- src/lib.rt:214:1
 returns-2 : tie.Need-returns-2
 returns-2 c = search needs
 
--- src/lib.rt:214:1
 returns-3 : tie.Need-returns-3
 returns-3 c = search needs
 

@@ -1,26 +1,20 @@
+-- `log::keep` meets its contract: at each return, the answer that was matched. Assumes nothing.
 use mathlib.Core.Path.{sym, ap, _∙_}
 use lib.ListN.{length}
 use Rattle.log.specs.Parts.{book-after, store-after}
 use borrow.Author.Needs.{needs}
 use Rattle.log.proofs.keep.Statement.{statement}
 use Rattle.log.proofs.keep.Tie as tie
-use Rattle.log.proofs.keep.Reads as reads
-use Rattle.log.proofs.keep.Lts as lts
-use Rattle.copies.proofs.keep.Reads as keep-reads
 
--- src/lib.rt:59:25
 enum-known-answer : tie.Need-enum-known-answer
 enum-known-answer c = search needs
 
--- src/lib.rt:59:36
 keep-requires : tie.Need-keep-requires
 keep-requires c κs = search needs
 
--- src/lib.rt:60:27
 enum-known-answer-2 : tie.Need-enum-known-answer-2
 enum-known-answer-2 c = search needs
 
--- src/lib.rt:55:1
 returns : tie.Need-returns
 returns c =
     let q = c .before .before .before .before .answer .given .1 in
@@ -29,7 +23,6 @@ returns c =
       c .keep .ensures .1 ∙ sym (ap (λ a. store-after a (o .book .now) (o .store .now) (o .block .now)) q),
     )
 
--- src/lib.rt:55:1
 returns-2 : tie.Need-returns-2
 returns-2 c = search needs
 
