@@ -36,7 +36,7 @@ use Rattle.log.specs.Replay.{copy-of-first, answered, respond}
 use Rattle.log.specs.Memory.{Memory, shown, Holds}
 use Rattle.log.specs.Promise.{Replies}
 use Rattle.log.specs.Parts.{book-after, store-after, first-ticket, book-without, part, Lends}
-use Rattle.log.proofs.Live.{on-ticket, alive, live-count, none-zero, at-most-32, at-most-one}
+use Rattle.log.proofs.Live.{alive, live-shown, none-zero, at-most-32, at-most-one}
 use Rattle.log.proofs.Keeping.{Copied, unchanged, kept-copy, dropped-copy}
 use Rattle.log.proofs.Lending.{as-it-was}
 use Rattle.log.proofs.Replying.{replies, neither-refused}
@@ -53,11 +53,7 @@ at-rest w b s r = record { words = w; book = b; store = s; rest = r }
 module _ {w w' b s lent lent' : List ℕ} {r r' : Rest} {t : Ticket} (h : Holds (at-rest w b s r)) (d : Does w w' r r' (take-in lent) (taken t) lent') where
   gained : (test : ℕ → Bool) → alive test (view w' r') ≡ alive test (view w r) + one (test (t .0))
   unfolding given-by handed-by count
-  gained test =
-      let k = subst (λ a. alive test (step (view w r) (take-in lent) .board) + count (on-ticket test) (handed-by a) ≡ alive test (view w r) + count (on-ticket test) (given-by a))
-      (sym (d .says (h .desk))) (live-count (view w r) (take-in lent) (h .desk .sound) test) in
-      let e = ap (alive test) (d .board (h .desk)) in
-      omega arith
+  gained test = let k = live-shown (h .desk) d test in omega arith
 
   new-ticket : t .0 ≢ 0
   new-ticket z =
@@ -130,11 +126,7 @@ first-handed l b s t x e f = go l (b .finished) e f
 module _ {w w' b s lent lent' : List ℕ} {r : Rest} {t : Ticket} {x : Told} (h : Holds (at-rest w b s r)) (d : Does w w' r r (hand-back lent) (handed t x) lent') where
   lost : (test : ℕ → Bool) → alive test (view w' r) + one (test (t .0)) ≡ alive test (view w r)
   unfolding given-by handed-by count
-  lost test =
-      let k = subst (λ a. alive test (step (view w r) (hand-back lent) .board) + count (on-ticket test) (handed-by a) ≡ alive test (view w r) + count (on-ticket test) (given-by a))
-      (sym (d .says (h .desk))) (live-count (view w r) (hand-back lent) (h .desk .sound) test) in
-      let e = ap (alive test) (d .board (h .desk)) in
-      omega arith
+  lost test = let k = live-shown (h .desk) d test in omega arith
 
   old-ticket : t .0 ≢ 0
   old-ticket z =

@@ -1,16 +1,19 @@
 -- How many live tickets pass a test, before and after a call. Assumes nothing.
 use Prim.Native.Nat.{ℕ, _+_, _≤_}
 use native.Mathlib.Omega.{arith}
-use mathlib.Core.Path.{_≡_, sym, ap, _∙_}
+use mathlib.Core.Path.{_≡_, sym, ap, _∙_, subst}
 use mathlib.Core.Bool.{Bool, true, false}
 use mathlib.Core.List.{List, map}
 use Rattle.board.specs.declared.Ticket.{Ticket}
 use Rattle.board.specs.declared.Request.{Request}
 use Rattle.board.specs.Plain.{if_then_else_, _=?_, count}
 use Rattle.board.specs.Board.{places, Board, live}
+use Rattle.board.specs.Answers.{Answer}
 use Rattle.board.specs.Calls.{Call, step}
 use Rattle.board.specs.Demand3.{given-by, handed-by}
 use Rattle.board.specs.Limits.{Sound, Fits}
+use Rattle.desk.specs.View.{Rest, view, Valid}
+use Rattle.desk.specs.Promise.{Does}
 use Rattle.board.proofs.Choose.{by-cases, same}
 use Rattle.board.proofs.Weigh.{weigh, one, weigh-map, weigh-count, weigh-length, weigh-at-most, weigh-each}
 use Rattle.board.proofs.Kept.{live-mass}
@@ -42,6 +45,14 @@ live-count b c s test =
     let before = weigh-count (on test) (live b) ∙ live-mass g b in
     let balance = k .balance g in
     omega arith
+
+-- the same of the boards that a valid memory shows before and after a call
+pub live-shown : {w w' : List ℕ} {r r' : Rest} {c : Call} {a : Answer} {lent : List ℕ} → Valid w r → Does w w' r r' c a lent → (test : ℕ → Bool)
+    → alive test (view w' r') + count (on-ticket test) (handed-by a) ≡ alive test (view w r) + count (on-ticket test) (given-by a)
+live-shown {w} {w'} {r} {r'} {c} v d test =
+    let after = ap (alive test) (d .board v) in
+    subst (λ x. alive test (view w' r') + count (on-ticket test) (handed-by x) ≡ alive test (view w r) + count (on-ticket test) (given-by x)) (sym (d .says v))
+    (let k = live-count (view w r) c (v .sound) test in omega arith)
 
 -- no live ticket is 0
 pub none-zero : (b : Board) → Sound b → alive (λ n. n =? 0) b ≡ 0

@@ -15,7 +15,6 @@ use Rattle.board.specs.declared.Aborting.{Aborting}
 use Rattle.board.specs.declared.Aborting.the-variants as aborting
 use Rattle.board.specs.declared.Freezing.{Freezing}
 use Rattle.board.specs.declared.Freezing.the-variants as freezing
-use Rattle.board.specs.Plain.{count}
 use Rattle.board.specs.declared.Unit.{Unit}
 use Rattle.board.specs.Plain.{_≤?_}
 use Rattle.board.specs.Board.{the-unit, units, Freeze, Board, fresh, live}
@@ -41,7 +40,7 @@ use Rattle.desk.specs.Promise.{Does, Fresh}
 use Rattle.log.specs.Replay.{State, fresh-state, copies-after, answered, respond}
 use Rattle.log.specs.Memory.{Memory, shown, Holds}
 use Rattle.log.specs.Promise.{Replies, Begins}
-use Rattle.log.proofs.Live.{on, on-ticket, alive, live-count}
+use Rattle.log.proofs.Live.{on, alive, live-shown}
 use Rattle.log.proofs.Keeping.{Copied, unchanged}
 
 -- ---- any call
@@ -77,11 +76,7 @@ replies m m' r letter c a lent text text' n d calls copied put = record {
     slots h test z =
         let before = h .slots test z in
         let moved = copied h .balance test z in
-        let called = live-count (b h) c (h .desk .sound) test in
-        let answer = d .says (h .desk) in
-        let board : alive test (view (m' .words) (m' .rest)) ≡ alive test (step (b h) c .board) = ap (alive test) (d .board (h .desk)) in
-        let gone : count (on-ticket test) (handed-by a) ≡ count (on-ticket test) (handed-by (step (b h) c .answer)) = ap (λ x. count (on-ticket test) (handed-by x)) answer in
-        let came : count (on-ticket test) (given-by a) ≡ count (on-ticket test) (given-by (step (b h) c .answer)) = ap (λ x. count (on-ticket test) (given-by x)) answer in
+        let called = live-shown (h .desk) d test in
         omega arith
 
 -- ---- a call by which no block comes or goes
