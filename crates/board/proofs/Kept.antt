@@ -95,6 +95,14 @@ unfolding Each
 each-joined P q l true p h = (p, h)
 each-joined P q l false p h = each-append P l (q ∷ []) h (p, tt)
 
+pub joined-mass : (g : Request → ℕ) (b : Board) (q : Request) (front : Bool) → q .unit .0 < units → mass g (joined q front b) ≡ g q + mass g b
+unfolding joined
+joined-mass g b q front u =
+    let l : List Request = if front then q ∷ b .waiting (q .unit) else b .waiting (q .unit) ++ (q ∷ []) in
+    let p = weigh-at g units (q .unit) l (b .waiting) u in
+    let w = weigh-joined g q (b .waiting (q .unit)) front in
+    omega arith
+
 kept-joins : (b : Board) (q : Request) (front : Bool) → Joins b q → Home b → Kept b (taken (q .ticket)) (joined q front b)
 unfolding joined given-by handed-by
 kept-joins b q front j h =
@@ -102,10 +110,7 @@ kept-joins b q front j h =
       came = q ∷ [];
       gone = [];
       newcomer = one-came q j;
-      balance = λ g.
-          let p = weigh-at g units (q .unit) l (b .waiting) (let s = j .unit in omega arith) in
-          let w = weigh-joined g q (b .waiting (q .unit)) front in
-          omega arith;
+      balance = λ g. let p = joined-mass g b q front (let s = j .unit in omega arith) in omega arith;
       home = home-at b (q .unit) l h (each-joined (λ r. r .unit ≡ q .unit) q (b .waiting (q .unit)) front refl (h (q .unit)));
       gives = refl;
       hands = refl;

@@ -13,7 +13,7 @@ use lib.ListN.{length}
 use Rattle.board.specs.Types.{Ticket, Unit, Request, Active, Finished, Rotation, Found, Nobody, Event, End, Ending, Ended, Refused}
 use Rattle.board.specs.Plain.{_<?_, _≤?_, Row, _⇒_, first-that-applies, Each}
 use Rattle.board.specs.Board.{units, find, without, by-ticket, ticket-of-active, data-length, sense-length, places, most-active, last-ticket, Freeze, one-freeze, one-release, freeze-number, Board, all-waiting, live, next-ticket, with-active, with-finished, with-freeze, with-clock}
-use Rattle.board.specs.Block.{fields, request}
+use Rattle.board.specs.Block.{whole-block, fields, request}
 use Rattle.board.specs.Answers.{Answer, refused, taken, sent, nothing, done, before, time, first, empty, handed, Stepped, says}
 use Rattle.board.specs.TakingIn.{Verdict, refuse, accept, address-held, checks-of-block, checks-of-board, verdict, joined, judged, taking-in}
 use Rattle.board.specs.Sending.{eligible, after, rotation, sent-from, sent-first, sent-by, sending}
@@ -83,7 +83,7 @@ unfolding first-that-applies
 passed true n rows e = let z : _≡_ {A = ℕ} 0 1 = cc in absurd (omega arith)
 passed false n rows e = (refl, e)
 
-accepted-joins : (b : Board) (s : List ℕ) → verdict b s ≡ accept → Joins b (request (next-ticket b) (fields s))
+pub accepted-joins : (b : Board) (s : List ℕ) → verdict b s ≡ accept → Joins b (request (next-ticket b) (fields s))
 unfolding verdict checks-of-block checks-of-board request
 accepted-joins b s e =
     let p5 = passed _ _ _ (passed _ _ _ (passed _ _ _ (passed _ _ _ (passed _ _ _ e .1) .1) .1) .1) in
@@ -101,6 +101,16 @@ accepted-joins b s e =
       ticket-left = not-at-most (p10 .0);
       room = not-at-most (p11 .0);
     }
+
+-- a block that passes them is a whole one
+pub accepted-whole : (b : Board) (s : List ℕ) → verdict b s ≡ accept → whole-block ≤ length s
+unfolding verdict checks-of-block checks-of-board
+accepted-whole b s e =
+    let p3 = passed _ _ _ (passed _ _ _ (passed _ _ _ e .1) .1) in
+    let within = neither (fields s .length-field <? whole-block) (length s <? fields s .length-field) (p3 .0) in
+    let low = not-below {m = fields s .length-field} {n = whole-block} (within .0) in
+    let high = not-below {m = length s} {n = fields s .length-field} (within .1) in
+    omega arith
 
 move-judged : (b : Board) (s : List ℕ) (v : Verdict) → verdict b s ≡ v → Moved b (take-in s) (judged b s v)
 unfolding judged request

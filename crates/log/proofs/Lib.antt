@@ -5,3 +5,4 @@ pub mod Replying
 pub mod Lending
 pub mod Blocks
 pub mod Examples
+pub mod Owning

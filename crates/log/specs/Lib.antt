@@ -4,3 +4,4 @@ pub mod Memory
 pub mod Promise
 pub mod Parts
 pub mod Example
+pub mod Own
