@@ -10,7 +10,7 @@ use lib.IntN.{ℤ, pos, negsuc, natAbs}
 use lib.Signed.{ltZ}
 use mathlib.Core.Bool.{true, false}
 use borrow.Author.Tests.{lt-ltb, le-ltb, ltb-true, ne-eqb}
-use Rattle.answers.specs.Answer.{digits, place-from, places, decimal, hex-digit, hex, signed, refusal, fields, print}
+use Rattle.answers.specs.Answer.{digits, place-from, places, decimal, hex-digit, hex, signed, refusal, after-tabs, print}
 use Rattle.answers.specs.Letters.{S}
 use Rattle.board.specs.Answers.{refused}
 use Rattle.answers.specs.Put.{Put}
@@ -120,5 +120,5 @@ pub refusal-more : (n m : ℕ) → 100 ≤ n → m ≡ n → decimal m ≡ refus
 unfolding refusal
 refusal-more n m h e = rw (le-ltb n 100 h, e)
 
-pub not-taking-in : (c n : ℕ) → (c ≡ S → ⊥) → c ∷ fields (refusal n ∷ []) ≡ print c (refused n)
+pub not-taking-in : (c n : ℕ) → (c ≡ S → ⊥) → c ∷ after-tabs (refusal n ∷ []) ≡ print c (refused n)
 not-taking-in c n h = rw (ne-eqb c S h)

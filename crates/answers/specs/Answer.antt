@@ -31,7 +31,7 @@ places n =
     + place-from 100000000 n
     + place-from 1000000000 n
 
--- decimal, no leading zeros
+-- decimal, no leading zeros, of a number of 32 bits
 unfoldable pub decimal : ℕ → List ℕ
 decimal n = digits (places n) n
 
@@ -44,7 +44,7 @@ signed (negsuc n) = 45 ∷ decimal (suc n)
 unfoldable pub hex-digit : ℕ → ℕ
 hex-digit d = if d <? 10 then 48 + d else 65 + (d - 10)
 
--- a code: two upper-case hex digits
+-- a code, a number of one byte: two upper-case hex digits
 unfoldable pub hex : ℕ → List ℕ
 hex n = hex-digit (n / 16) ∷ hex-digit (n % 16) ∷ []
 
@@ -75,13 +75,13 @@ said letter empty = []
 said letter (handed t x) = decimal (t .0) ∷ hex (x .status) ∷ hex (x .scsi) ∷ decimal (x .unsensed) ∷ signed (x .residual) ∷ []
 
 -- each field after a tab, and then the line feed
-abbrev pub fields : List (List ℕ) → List ℕ
-fields [] = 10 ∷ []
-fields (f ∷ fs) = (9 ∷ f) ++ fields fs
+abbrev pub after-tabs : List (List ℕ) → List ℕ
+after-tabs [] = 10 ∷ []
+after-tabs (f ∷ fs) = (9 ∷ f) ++ after-tabs fs
 
 -- the answer to a record that begins with the letter
 abbrev pub print : (letter : ℕ) → Answer → List ℕ
-print letter a = letter ∷ fields (said letter a)
+print letter a = letter ∷ after-tabs (said letter a)
 
 -- the answer to a line that is not of the form: ?
 abbrev pub unclear : List ℕ

@@ -17,7 +17,7 @@ ghost use lib.IntN.{pos, natAbs};
 ghost use lib.Signed.{ltZ};
 ghost use Rattle.board.specs.Answers.{number, done, time, handed, taking-in-says, sending-says, reporting-says, aborting-says, freezing-says, handing-back-says};
 ghost use Rattle.answers.specs.Letters as letter;
-ghost use Rattle.answers.specs.Answer.{digits, place-from, places, decimal, signed, hex-digit, hex, refusal, fields, print, unclear};
+ghost use Rattle.answers.specs.Answer.{digits, place-from, places, decimal, signed, hex-digit, hex, refusal, after-tabs, print, unclear, head};
 ghost use Rattle.answers.specs.Put.{Put};
 
 // ---- numbers
@@ -157,7 +157,7 @@ fn field_signed(out: &mut [u8; 64], at: usize, x: i32) -> usize
 
 // A letter and a number.
 fn line_decimal(out: &mut [u8; 64], c: u8, n: u32) -> usize
-    ensures { λ r. ⌜ Put 64 (now (out .entry)) (now (out .exit)) 0 r (c ∷ fields (decimal n ∷ [])) ⌝ }
+    ensures { λ r. ⌜ Put 64 (now (out .entry)) (now (out .exit)) 0 r (c ∷ after-tabs (decimal n ∷ [])) ⌝ }
 {
     out[0] = c;
     let a = field_decimal(out, 1, n);
@@ -167,7 +167,7 @@ fn line_decimal(out: &mut [u8; 64], c: u8, n: u32) -> usize
 
 // A letter and a refusal.
 fn line_refusal(out: &mut [u8; 64], c: u8, n: u8) -> usize
-    ensures { λ r. ⌜ Put 64 (now (out .entry)) (now (out .exit)) 0 r (c ∷ fields (refusal n ∷ [])) ⌝ }
+    ensures { λ r. ⌜ Put 64 (now (out .entry)) (now (out .exit)) 0 r (c ∷ after-tabs (refusal n ∷ [])) ⌝ }
 {
     out[0] = c;
     out[1] = b'\t';
@@ -177,7 +177,7 @@ fn line_refusal(out: &mut [u8; 64], c: u8, n: u8) -> usize
 }
 
 fn line_submitted(out: &mut [u8; 64], status: u8, ticket: u32) -> usize
-    ensures { λ r. ⌜ Put 64 (now (out .entry)) (now (out .exit)) 0 r (letter.S ∷ fields (hex status ∷ decimal ticket ∷ [])) ⌝ }
+    ensures { λ r. ⌜ Put 64 (now (out .entry)) (now (out .exit)) 0 r (letter.S ∷ after-tabs (hex status ∷ decimal ticket ∷ [])) ⌝ }
 {
     out[0] = b'S';
     let a = field_hex(out, 1, status);
@@ -187,7 +187,7 @@ fn line_submitted(out: &mut [u8; 64], status: u8, ticket: u32) -> usize
 }
 
 fn line_sent(out: &mut [u8; 64], ticket: u32, unit: u8, looked: u8) -> usize
-    ensures { λ r. ⌜ Put 64 (now (out .entry)) (now (out .exit)) 0 r (letter.N ∷ fields (decimal ticket ∷ decimal unit ∷ decimal looked ∷ [])) ⌝ }
+    ensures { λ r. ⌜ Put 64 (now (out .entry)) (now (out .exit)) 0 r (letter.N ∷ after-tabs (decimal ticket ∷ decimal unit ∷ decimal looked ∷ [])) ⌝ }
 {
     out[0] = b'N';
     let a = field_decimal(out, 1, ticket);
@@ -198,7 +198,7 @@ fn line_sent(out: &mut [u8; 64], ticket: u32, unit: u8, looked: u8) -> usize
 }
 
 fn line_nothing(out: &mut [u8; 64], looked: u8) -> usize
-    ensures { λ r. ⌜ Put 64 (now (out .entry)) (now (out .exit)) 0 r (letter.N ∷ fields ((45 ∷ []) ∷ decimal looked ∷ [])) ⌝ }
+    ensures { λ r. ⌜ Put 64 (now (out .entry)) (now (out .exit)) 0 r (letter.N ∷ after-tabs ((45 ∷ []) ∷ decimal looked ∷ [])) ⌝ }
 {
     out[0] = b'N';
     out[1] = b'\t';
@@ -337,4 +337,19 @@ pub fn malformed(out: &mut [u8; 64]) -> usize
     out[0] = b'?';
     out[1] = b'\n';
     2
+}
+
+// The first line of all: board, tab, 1.
+pub fn head_line(out: &mut [u8; 64]) -> usize
+    ensures { λ r. ⌜ Put 64 (now (out .entry)) (now (out .exit)) 0 r head ⌝ }
+{
+    out[0] = b'b';
+    out[1] = b'o';
+    out[2] = b'a';
+    out[3] = b'r';
+    out[4] = b'd';
+    out[5] = b'\t';
+    out[6] = b'1';
+    out[7] = b'\n';
+    8
 }

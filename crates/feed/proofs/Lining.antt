@@ -129,7 +129,7 @@ fed-piece m m' buf left text e at room l c so-far k = record {
   holds = so-far .holds;
   state = λ h. sym (ap (λ x. x .state) (all h));
   says = λ h. sym (append-nil text) ∙ sym (ap (λ x. x .text) (all h));
-  over = λ h. k ∙ (ap (take 401) (sym (drop-take at e buf (let z = length-take-le e buf room in omega arith))) ∙ ap (λ x. take 401 (x .line)) (sym (all h)));
+  keeps = λ h. k ∙ (ap (take 401) (sym (drop-take at e buf (let z = length-take-le e buf room in omega arith))) ∙ ap (λ x. take 401 (x .line)) (sym (all h)));
 }
   where
     all : Holds m → fed (shown m) [] (take e buf) ≡ record { state = shown m'; line = drop at (take e buf); text = text ++ [] }

@@ -172,7 +172,7 @@ through last h q (turn m n left kept piece text pieces texts f more) e =
     behind = fed-behind (shown m) [] left piece q
 
     cut : kept ≡ take 401 (one .line)
-    cut = f .over h ∙ ap (λ x. take 401 (x .line)) behind
+    cut = f .keeps h ∙ ap (λ x. take 401 (x .line)) behind
 
     alike : Alike kept (one .line)
     alike = ap (take 401) cut ∙ take-take 401 401 (one .line) (omega arith)

@@ -32,12 +32,12 @@ last-answer s (c ∷ cs) = answer s (c ∷ cs) .text
 -- ---- what the functions promise
 
 -- From the memory m to m' by these bytes, with this text written: a memory that holds a state still holds one; the state, the text and
--- what stands over, of which 401 bytes are kept, are the definition's.
+-- what stands over, of which at most 401 bytes are kept, are the definition's.
 pub record Feeds (m m' : Memory) (bytes left text : List ℕ) : Type 0 where
   pub holds : Holds m → Holds m'
   pub state : Holds m → shown m' ≡ fed (shown m) [] bytes .state
   pub says : Holds m → text ≡ fed (shown m) [] bytes .text
-  pub over : Holds m → left ≡ take 401 (fed (shown m) [] bytes .line)
+  pub keeps : Holds m → left ≡ take 401 (fed (shown m) [] bytes .line)
 
 -- the end of the input, with what stood over
 abbrev pub Ends : Memory → (left text : List ℕ) → Type 0

@@ -1,3 +1,3 @@
--- A log fed piece by piece (Feeding), and where a line ends (Ends-of-lines).
+-- A log fed piece by piece (Feeding), and where a line ends (LineEnds).
 pub mod Feeding
 pub mod LineEnds

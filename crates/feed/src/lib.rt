@@ -20,7 +20,7 @@ pub const OUTPUT: usize = 1048576;
 
 // ---- where a line ends
 
-// Whether one of the 16 bytes at i is a line feed. With no way out in its middle this is one comparison.
+// False only if none of the 16 bytes at i is a line feed. With no way out in its middle this is one comparison.
 fn any_of_16(s: &[u8], i: usize) -> bool
     requires { ⌜ i + 16 ≤ length (now s) ⌝ }
     ensures { λ r. ⌜ (r ≡ false → Clear (now (s .entry)) i (i + 16)) ⌝ }

@@ -9,7 +9,7 @@ use borrow.Author.Tests.{le-leb, lt-leb, eq-eqb, ne-eqb, eqb-true}
 use lib.ListN.{length, getD, set, take, drop, drop-of-length-le, length-drop}
 use lib.Seq.{drop-cons, take-suc, sets}
 use lib.Dec.{eqb}
-use Rattle.lines.specs.Text.{more, number, fields, onto, Cut, is-hex, hex-digit, all-hex, bytes, code}
+use Rattle.lines.specs.Text.{more, number, fields, onto, Cut, is-hex, hex-value, all-hex, bytes, code}
 use Rattle.lines.specs.Record.{Record, malformed, only, kind, code-kind, sense, sense-bytes}
 use Rattle.board.specs.Plain.{if_then_else_, _≤?_}
 use Rattle.board.proofs.Choose.{by-cases, both, at-most}
@@ -166,17 +166,17 @@ pub hex-end : (s : List ℕ) (i : ℕ) (ok : Bool) → length s ≤ i → all-he
 unfolding all-hex
 hex-end s i ok h inv = sym (inv ∙ ap (λ (x : List ℕ). ok && all-hex x) (drop-of-length-le s h) ∙ and-true ok)
 
-two-bytes : (a b : ℕ) (l : List ℕ) → bytes (a ∷ b ∷ l) ≡ (hex-digit a * 16 + hex-digit b) ∷ bytes l
+two-bytes : (a b : ℕ) (l : List ℕ) → bytes (a ∷ b ∷ l) ≡ (hex-value a * 16 + hex-value b) ∷ bytes l
 unfolding bytes
 two-bytes a b l = refl
 
 bytes-next : (s : List ℕ) (i : ℕ) → 2 * i + 1 < length s
-    → bytes (drop (2 * i) s) ≡ (hex-digit (getD s (2 * i) 0) * 16 + hex-digit (getD s (2 * i + 1) 0)) ∷ bytes (drop (2 * (i + 1)) s)
+    → bytes (drop (2 * i) s) ≡ (hex-value (getD s (2 * i) 0) * 16 + hex-value (getD s (2 * i + 1) 0)) ∷ bytes (drop (2 * (i + 1)) s)
 bytes-next s i h =
     let n : 2 * i + 1 + 1 ≡ 2 * (i + 1) = omega arith in
     ap bytes (uncons s (2 * i) (omega arith) ∙ ap (λ (l : List ℕ). getD s (2 * i) 0 ∷ l) (uncons s (2 * i + 1) h))
     ∙ two-bytes _ _ _
-    ∙ ap (λ (k : ℕ). (hex-digit (getD s (2 * i) 0) * 16 + hex-digit (getD s (2 * i + 1) 0)) ∷ bytes (drop k s)) n
+    ∙ ap (λ (k : ℕ). (hex-value (getD s (2 * i) 0) * 16 + hex-value (getD s (2 * i + 1) 0)) ∷ bytes (drop k s)) n
 
 bytes-short : (l : List ℕ) → length l ≤ 1 → bytes l ≡ []
 unfolding bytes
@@ -190,7 +190,7 @@ bytes-end s i h = bytes-short (drop (2 * i) s) (rw (length-drop) (omega arith))
 -- ---- fields of one and of two bytes
 
 code-two : (s : List ℕ) → length s ≡ 2
-    → code s ≡ (if is-hex (getD s 0 0) && is-hex (getD s 1 0) then Byte (hex-digit (getD s 0 0) * 16 + hex-digit (getD s 1 0)) else Bad)
+    → code s ≡ (if is-hex (getD s 0 0) && is-hex (getD s 1 0) then Byte (hex-value (getD s 0 0) * 16 + hex-value (getD s 1 0)) else Bad)
 unfolding code
 code-two [] h = absurd (omega arith)
 code-two (a ∷ []) h = absurd (omega arith)
@@ -198,10 +198,10 @@ code-two (a ∷ b ∷ []) h = refl
 code-two (a ∷ b ∷ c ∷ s) h = absurd (omega arith)
 
 pub code-right : (s : List ℕ) (a b : Bool) (x y : ℕ) → length s ≡ 2 → a ≡ is-hex (getD s 0 0) → b ≡ is-hex (getD s 1 0) → (a && b) ≡ true
-    → x ≡ hex-digit (getD s 0 0) → y ≡ hex-digit (getD s 1 0) → Byte (x * 16 + y) ≡ code s
+    → x ≡ hex-value (getD s 0 0) → y ≡ hex-value (getD s 1 0) → Byte (x * 16 + y) ≡ code s
 code-right s a b x y l p q t u v =
     let e : (is-hex (getD s 0 0) && is-hex (getD s 1 0)) ≡ true = (cc) in
-    let z : Byte (x * 16 + y) ≡ Byte (hex-digit (getD s 0 0) * 16 + hex-digit (getD s 1 0)) = (cc) in
+    let z : Byte (x * 16 + y) ≡ Byte (hex-value (getD s 0 0) * 16 + hex-value (getD s 1 0)) = (cc) in
     z ∙ sym (code-two s l ∙ rw e)
 
 pub code-wrong : (s : List ℕ) (a b : Bool) → length s ≡ 2 → a ≡ is-hex (getD s 0 0) → b ≡ is-hex (getD s 1 0) → (a && b) ≡ false → Bad ≡ code s
@@ -244,12 +244,12 @@ sense-other (a ∷ b ∷ s) h = refl
 
 -- ---- storing the bytes of a block
 
-pub decode-next : (block s : List ℕ) (i x y : ℕ) → 2 * i + 1 < length s → x ≡ hex-digit (getD s (2 * i) 0) → y ≡ hex-digit (getD s (2 * i + 1) 0)
+pub decode-next : (block s : List ℕ) (i x y : ℕ) → 2 * i + 1 < length s → x ≡ hex-value (getD s (2 * i) 0) → y ≡ hex-value (getD s (2 * i + 1) 0)
     → sets block i (bytes (drop (2 * i) s)) ≡ sets (set block i (x * 16 + y)) (i + 1) (bytes (drop (2 * (i + 1)) s))
 decode-next block s i x y h p q =
     ap (sets block i) (bytes-next s i h)
-    ∙ ap (λ (k : ℕ). sets (set block i (hex-digit (getD s (2 * i) 0) * 16 + hex-digit (getD s (2 * i + 1) 0))) k (bytes (drop (2 * (i + 1)) s))) (sym (add-one i))
-    ∙ ap (λ (v : ℕ). sets (set block i (v * 16 + hex-digit (getD s (2 * i + 1) 0))) (i + 1) (bytes (drop (2 * (i + 1)) s))) (sym p)
+    ∙ ap (λ (k : ℕ). sets (set block i (hex-value (getD s (2 * i) 0) * 16 + hex-value (getD s (2 * i + 1) 0))) k (bytes (drop (2 * (i + 1)) s))) (sym (add-one i))
+    ∙ ap (λ (v : ℕ). sets (set block i (v * 16 + hex-value (getD s (2 * i + 1) 0))) (i + 1) (bytes (drop (2 * (i + 1)) s))) (sym p)
     ∙ ap (λ (v : ℕ). sets (set block i (x * 16 + v)) (i + 1) (bytes (drop (2 * (i + 1)) s))) (sym q)
 
 pub decode-end : (block s : List ℕ) (i : ℕ) → length s ≤ 2 * i + 1 → sets block i (bytes (drop (2 * i) s)) ≡ block
@@ -333,8 +333,8 @@ number-tab (c ∷ d ∷ ds) h = rw (more-tab 0 (c ∷ d ∷ ds) h, same)
 abbrev sum-of : ℕ → ℕ
 sum-of c = c % 16 + 9 * (c / 64)
 
-pub digit-value : (c : ℕ) → is-hex c ≡ true → (sum-of c ≡ hex-digit c) × (sum-of c < 16)
-unfolding hex-digit
+pub digit-value : (c : ℕ) → is-hex c ≡ true → (sum-of c ≡ hex-value c) × (sum-of c < 16)
+unfolding hex-value
 digit-value c h = by-cases (48 ≤? c && c ≤? 57)
     (λ e. let l = both (48 ≤? c) (c ≤? 57) e in let a : 48 ≤ c = at-most (l .0) in let b : c ≤ 57 = at-most (l .1) in rw e (omega arith, omega arith))
     (λ e. let f : (65 ≤? c && c ≤? 70) ≡ true = subst (λ x. (x || (65 ≤? c && c ≤? 70)) ≡ true) e h in

@@ -31,7 +31,7 @@ fields (c ∷ cs) = if c =? tab then [] ∷ fields cs else onto c (fields cs)
 abbrev pub is-digit : ℕ → Bool
 is-digit c = 48 ≤? c && c ≤? 57
 
--- n, and then the digits: each is to leave a number of 32 bits
+-- the number with n's digits and then these; none at a byte that is no digit, and none above 4294967295
 unfoldable pub more : ℕ → List ℕ → Number
 more n [] = Is n
 more n (c ∷ cs) =
@@ -50,8 +50,8 @@ abbrev pub is-hex : ℕ → Bool
 is-hex c = (48 ≤? c && c ≤? 57) || (65 ≤? c && c ≤? 70)
 
 -- the value of a hex digit (0 for any other byte)
-unfoldable pub hex-digit : ℕ → ℕ
-hex-digit c = if 48 ≤? c && c ≤? 57 then c - 48 else if 65 ≤? c && c ≤? 70 then 10 + (c - 65) else 0
+unfoldable pub hex-value : ℕ → ℕ
+hex-value c = if 48 ≤? c && c ≤? 57 then c - 48 else if 65 ≤? c && c ≤? 70 then 10 + (c - 65) else 0
 
 -- every byte is a hex digit
 unfoldable pub all-hex : List ℕ → Bool
@@ -66,13 +66,13 @@ are-bytes f = length f % 2 =? 0 && all-hex f
 unfoldable pub bytes : List ℕ → List ℕ
 bytes [] = []
 bytes (a ∷ []) = []
-bytes (a ∷ b ∷ rest) = (hex-digit a * 16 + hex-digit b) ∷ bytes rest
+bytes (a ∷ b ∷ rest) = (hex-value a * 16 + hex-value b) ∷ bytes rest
 
 -- a code: one byte
 unfoldable pub code : List ℕ → Code
 code [] = Bad
 code (a ∷ []) = Bad
-code (a ∷ b ∷ []) = if is-hex a && is-hex b then Byte (hex-digit a * 16 + hex-digit b) else Bad
+code (a ∷ b ∷ []) = if is-hex a && is-hex b then Byte (hex-value a * 16 + hex-value b) else Bad
 code (a ∷ b ∷ c ∷ cs) = Bad
 
 -- ---- what the code's search for a tab promises

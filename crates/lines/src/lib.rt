@@ -8,7 +8,7 @@ ghost use mathlib.Core.List.{[]};
 ghost use Prim.Native.Nat.{_≤_, _<_};
 ghost use lib.ListN.{length};
 ghost use lib.Seq.{sets};
-ghost use Rattle.lines.specs.Text.{fields, is-hex, hex-digit, number, more, all-hex, bytes, code, Cut};
+ghost use Rattle.lines.specs.Text.{fields, is-hex, hex-value, number, more, all-hex, bytes, code, Cut};
 ghost use Rattle.lines.specs.Record.{told, parse, Parsed, by-letter, of-block, of-number, numbered, event-of, event-rest, plain-event, completed, complete-event, kind, named, code-kind, sense, byte-sense, sense-bytes};
 
 // A record. The bytes of a submitted block stand at the start of the lent array; here is how many they are. A unit may be
@@ -122,7 +122,7 @@ fn is_hex(c: u8) -> bool
 // The value of a hex digit. With no branch in it, so that a whole block is decoded many digits at a time.
 fn hex_digit(c: u8) -> u8
     requires { ⌜ is-hex c ≡ true ⌝ }
-    ensures value { λ r. ⌜ r ≡ hex-digit c ⌝ }
+    ensures value { λ r. ⌜ r ≡ hex-value c ⌝ }
     ensures small { λ r. ⌜ r < 16 ⌝ }
 {
     c % 16 + 9 * (c / 64)

@@ -1,7 +1,10 @@
--- The example of document 01, "The replay program": these input lines give these output lines, whole. Assumes nothing.
+-- The example of document 01, "The replay program": these input lines give these output lines, whole. proofs/Examples.antt proves it.
+-- Assumes nothing.
 use Prim.Native.Nat.{ℕ}
+use mathlib.Core.Path.{_≡_}
 use mathlib.Core.List.{List, [], _∷_, _++_}
 use Rattle.answers.specs.Letters.{N, F, R, T, H}
+use Rattle.log.specs.Replay.{replay}
 
 abbrev tab : ℕ
 tab = 9
@@ -31,3 +34,6 @@ example-output =
     ++ ((T ∷ tab ∷ 49 ∷ line-feed ∷ [])
     ++ ((H ∷ tab ∷ 49 ∷ 48 ∷ 52 ∷ line-feed ∷ [])
     ++ (R ∷ tab ∷ 49 ∷ 48 ∷ 51 ∷ line-feed ∷ [])))))))
+
+pub record Example : Type 0 where
+  pub gives : replay example-input ≡ example-output

@@ -1,4 +1,4 @@
--- The program's own copies are the right ones: after any lines H is never refused for its block (105). Assumes nothing.
+-- After any lines H is never refused for its block (105): its copy is there, whole, and has its address. Assumes nothing.
 use mathlib.Core.Logic.{_≢_}
 use mathlib.Core.List.{List, [], _∷_}
 use Prim.Native.Nat.{ℕ}

@@ -1,7 +1,6 @@
-// One line of a replay's log in, one line out; and a log fed piece by piece. The state is lent: the desk's words, and the book and the
-// store of the copies of live requests' blocks.
+// One line of a replay's log in, one line out. The state is lent: the desk's words, and the book and the store of the copies of live
+// requests' blocks.
 use board::Event;
-use board::Freezing;
 use board::HandingBack;
 use board::Looking;
 use board::TakingIn;

@@ -1,1 +1,2 @@
--- The proofs of the program, each in its folder.
+-- What one more piece of input makes of the progress; each function's own proof stands in its folder.
+pub mod Onward

@@ -1,6 +1,6 @@
 -- `answers::freezing_or_releasing` meets its contract. Assumes nothing.
 use Rattle.answers.proofs.Puts.{put-as, put-is, not-taking-in}
-use Rattle.answers.specs.Answer.{print, fields, decimal}
+use Rattle.answers.specs.Answer.{print, after-tabs, decimal}
 use Rattle.board.specs.Answers.{freezing-says}
 use mathlib.Core.Path.{ap}
 use mathlib.Core.List.{_∷_, []}
@@ -28,7 +28,7 @@ returns : tie.Need-returns
 returns c =
     let letter = c .before .before .before .before .before .before .args .c in
     put-as (λ a. print letter (freezing-says a)) (c .before .before .before .before .a .given .1)
-    (put-is (ap (λ (n : ℕ). letter ∷ fields (decimal n ∷ [])) (c .before .wide .ensures)) (c .line-decimal .ensures))
+    (put-is (ap (λ (n : ℕ). letter ∷ after-tabs (decimal n ∷ [])) (c .before .wide .ensures)) (c .line-decimal .ensures))
 
 returns-2 : tie.Need-returns-2
 returns-2 c =

@@ -1,7 +1,7 @@
 -- `answers::taking_in` meets its contract. Assumes nothing.
 use Rattle.answers.proofs.Puts.{put-as, put-is}
 use Rattle.answers.specs.Letters as letter
-use Rattle.answers.specs.Answer.{print, fields, hex, decimal}
+use Rattle.answers.specs.Answer.{print, after-tabs, hex, decimal}
 use Rattle.board.specs.Answers.{taking-in-says}
 use mathlib.Core.Path.{ap}
 use mathlib.Core.List.{_∷_, []}
@@ -31,7 +31,7 @@ returns c = put-as (λ a. print letter.S (taking-in-says a)) (c .before .before 
 returns-2 : tie.Need-returns-2
 returns-2 c =
     put-as (λ a. print letter.S (taking-in-says a)) (c .before .before .before .before .a2 .given .1)
-    (put-is (ap (λ (n : ℕ). letter.S ∷ fields (hex n ∷ decimal 0 ∷ [])) (c .before .number-of .ensures)) (c .line-submitted2 .ensures))
+    (put-is (ap (λ (n : ℕ). letter.S ∷ after-tabs (hex n ∷ decimal 0 ∷ [])) (c .before .number-of .ensures)) (c .line-submitted2 .ensures))
 
 pub taking-in-spec : {M : Type 1} → statement M
 taking-in-spec =

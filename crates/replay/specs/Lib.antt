@@ -1,0 +1,2 @@
+-- What the program's loop promises.
+pub mod Progress
