@@ -10,11 +10,12 @@ use lib.Seq.{take-take}
 use Rattle.board.specs.Plain.{if_then_else_, _=?_, Each}
 use Rattle.board.proofs.Choose.{if-ind, same, differ}
 use Rattle.board.proofs.Weigh.{each-append}
+use Rattle.lines.specs.Text.{onto}
 use Rattle.lines.proofs.Overlong.{parse-cut}
 use Rattle.answers.specs.Answer.{head}
-use Rattle.log.specs.Replay.{State, fresh-state, Answered, respond, answer, onto, lines, answers, replay}
+use Rattle.log.specs.Replay.{State, fresh-state, Answered, respond, answer, lines, answers, replay}
 use Rattle.log.specs.Memory.{Memory, shown, Holds}
-use Rattle.feed.specs.Feeding.{Fed, after, fed, last-answer, Ends, Through, over, turn, joined, Whole-log}
+use Rattle.feed.specs.Feeding.{Fed, after, fed, last-answer, Ends, Through, start, turn, joined, Whole-log}
 
 -- ---- fed at once
 
@@ -29,7 +30,7 @@ begun (c ∷ cs) [] = (c ∷ cs) ∷ []
 begun (c ∷ cs) (l ∷ more) = ((c ∷ cs) ++ l) ∷ more
 
 begun-onto : (k : List ℕ) (c : ℕ) (ls : List (List ℕ)) → begun (k ++ (c ∷ [])) ls ≡ begun k (onto c ls)
-unfolding begun
+unfolding begun onto
 begun-onto [] c [] = refl
 begun-onto [] c (l ∷ more) = refl
 begun-onto (a ∷ k) c [] = refl
@@ -152,7 +153,7 @@ alike-finished s k l (c ∷ cs) a = go (c =? 10) (alike-finished s (k ++ (c ∷ 
 through : {m m' : Memory} {left left' : List ℕ} {pieces texts : List (List ℕ)} (last : List ℕ) → Holds m → Quiet left → Through m' left' m left pieces texts → Ends m' left' last
     → joined texts ++ last ≡ finished (fed (shown m) left (joined pieces))
 unfolding joined fed
-through last h q over e = e h
+through last h q start e = e h
 through last h q (turn m n left kept piece text pieces texts f more) e =
     append-assoc text (joined texts) last
     ∙ (ap (λ (x : List ℕ). text ++ x) (through last (f .holds h) quiet more e)

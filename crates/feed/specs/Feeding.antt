@@ -48,7 +48,7 @@ Ends m left text = Holds m → text ≡ last-answer (shown m) left
 -- From the memory m with what stands over, through these pieces of input, with these texts written, to m' and what stands over then. A
 -- piece is read behind what stood over.
 pub data Through (m' : Memory) (left' : List ℕ) : Memory → List ℕ → List (List ℕ) → List (List ℕ) → Type 0 where
-  over : Through m' left' m' left' [] []
+  start : Through m' left' m' left' [] []
   turn : (m n : Memory) (left kept piece text : List ℕ) (pieces texts : List (List ℕ))
       → Feeds m n (left ++ piece) kept text
       → Through m' left' n kept pieces texts

@@ -15,7 +15,7 @@ use Rattle.lines.specs.declared.Number.the-variants.{Is, Not}
 abbrev pub tab : ℕ
 tab = 9
 
--- c before the first field
+-- c before the first of some texts
 unfoldable pub onto : ℕ → List (List ℕ) → List (List ℕ)
 onto c [] = (c ∷ []) ∷ []
 onto c (f ∷ fs) = (c ∷ f) ∷ fs

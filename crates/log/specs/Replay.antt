@@ -9,8 +9,9 @@ use Rattle.board.specs.Answers.{Answer}
 use Rattle.board.specs.Demand3.{given-by, handed-by}
 use Rattle.board.specs.Calls.{Call, step}
 use Rattle.board.specs.Calls as call
+use Rattle.lines.specs.Text.{onto}
 use Rattle.lines.specs.Record.{Record, parse}
-use Rattle.lines.specs.Record as record-of
+use Rattle.lines.specs.Record as line
 use Rattle.answers.specs.Letters.{S, N, E, A, F, R, T, B, H}
 use Rattle.answers.specs.Answer.{print, unclear, head}
 
@@ -51,27 +52,22 @@ answered s letter c =
 
 -- H uses the program's own copy of the block. A line not of the form answers `?` and changes nothing.
 unfoldable pub respond : State → Record → Answered
-respond s (record-of.submit block) = answered s S (call.take-in block)
-respond s record-of.send = answered s N call.send
-respond s (record-of.event t e moved) = answered s E (call.event t e moved)
-respond s (record-of.abort t) = answered s A (call.abort t)
-respond s (record-of.freeze n) = answered s F (call.freeze (the-unit n))
-respond s (record-of.release n) = answered s R (call.release (the-unit n))
-respond s record-of.tick = answered s T call.tick
-respond s record-of.reset = answered s B call.reset
-respond s record-of.hand-back = answered s H (call.hand-back (copy-of-first (s .copies) (s .board .finished)))
-respond s record-of.malformed = record { state = s; text = unclear }
+respond s (line.submit block) = answered s S (call.take-in block)
+respond s line.send = answered s N call.send
+respond s (line.event t e moved) = answered s E (call.event t e moved)
+respond s (line.abort t) = answered s A (call.abort t)
+respond s (line.freeze n) = answered s F (call.freeze (the-unit n))
+respond s (line.release n) = answered s R (call.release (the-unit n))
+respond s line.tick = answered s T call.tick
+respond s line.reset = answered s B call.reset
+respond s line.hand-back = answered s H (call.hand-back (copy-of-first (s .copies) (s .board .finished)))
+respond s line.malformed = record { state = s; text = unclear }
 
 -- a line, without its line feed
 abbrev pub answer : State → List ℕ → Answered
-answer s line = respond s (parse line)
+answer s l = respond s (parse l)
 
 -- ---- a whole log
-
--- c before the first line
-abbrev pub onto : ℕ → List (List ℕ) → List (List ℕ)
-onto c [] = (c ∷ []) ∷ []
-onto c (l ∷ more) = (c ∷ l) ∷ more
 
 -- A line is what stands between line feeds; the last may lack it, and a last line feed begins no further line.
 unfoldable pub lines : List ℕ → List (List ℕ)

@@ -6,17 +6,17 @@ use lib.ListN.{take, drop}
 use lib.Seq.{take-add}
 use Rattle.log.specs.Memory.{Memory}
 use Rattle.log.specs.Promise.{Begins}
-use Rattle.feed.specs.Feeding.{Feeds, Through, over, turn}
+use Rattle.feed.specs.Feeding.{Feeds, Through, start, turn}
 use Rattle.replay.specs.Progress.{Progress}
 
 -- one turn more at the end
 one-more : {m n first : Memory} {left left' begun text : List ℕ} {pieces texts : List (List ℕ)} (piece : List ℕ) → Through m left first begun pieces texts → Feeds m n (left ++ piece) left' text
     → Through n left' first begun (pieces ++ (piece ∷ [])) (texts ++ (text ∷ []))
-one-more piece over f = turn _ _ _ _ _ _ [] [] f over
+one-more piece start f = turn _ _ _ _ _ _ [] [] f start
 one-more piece (turn m n left kept earlier text pieces texts g more) f = turn m n left kept earlier text _ _ g (one-more piece more f)
 
 pub begun : (m : Memory) (buf : List ℕ) → Begins m → Progress m (take 0 buf)
-begun m buf b = record { first = m; begins = b; pieces = []; texts = []; through = over }
+begun m buf b = record { first = m; begins = b; pieces = []; texts = []; through = start }
 
 -- what was read behind what stood over was fed
 pub onward : (m n : Memory) (old buf left' text : List ℕ) (e k : ℕ) → Progress m (take e old) → take e buf ≡ take e old → Feeds m n (take (e + k) buf) left' text → Progress n left'
