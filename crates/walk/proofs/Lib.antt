@@ -1,0 +1,2 @@
+-- The lines that walks by hand have in common.
+pub mod Walk
