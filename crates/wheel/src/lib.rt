@@ -1,6 +1,7 @@
 // The clock and the rotation mark as one small record, lent by `&mut` and altered where it lies: a tick changes the clock, a send the
-// mark, and nothing else. `tick` and `send` have no branch, and are proved by a walk of their code by hand; every branch stands in a
-// function below them. A caller that keeps the wheel by value calls `tick_by` and `send_by`, and needs no walk.
+// mark, and nothing else of it. A function that takes or makes a `&mut Wheel` is proved by a walk of its code by hand. So the four that
+// do have no branch; what branches stands below them and knows no reference to the wheel. A caller that keeps the wheel by value calls
+// `tick_by` and `send_by`, and needs no walk.
 use board::Sending;
 use board::Unit;
 use rows::WORDS;
