@@ -1,0 +1,225 @@
+/*
+ * pellacrosta.h: the request desk for C99 and C++.
+ *
+ * The desk takes SCSI requests in, says which is sent next, turns what the adapter reports into a status byte and an exact count of
+ * missing bytes, and hands each request back once. Every function below is proved to do what it says here, for every value of its
+ * numbers and whatever the lent memory holds.
+ *
+ * Link with -lpellacrosta (or target/staticlib/libpellacrosta.a), on x86-64. The archive needs no other library, not even C's.
+ *
+ * THE MEMORY. A desk is PELLA_WORDS words of 32 bits that the caller lends with each call, aligned as uint32_t is; a wheel (clock and
+ * rotation mark), aligned as a struct pella_wheel is; and the last ticket given. Make them with pella_fresh, PELLA_FRESH_WHEEL and 0,
+ * leave them alone between calls, and lend the same three each time. Nothing is kept anywhere else, so there may be as many desks as
+ * there is memory for.
+ *
+ *     uint32_t memory[PELLA_WORDS];
+ *     struct pella_wheel wheel = PELLA_FRESH_WHEEL;
+ *     uint32_t last_ticket = 0;
+ *     pella_fresh(memory, PELLA_WORDS);
+ *
+ * WHAT A CALLER OWES. A pointer leads to as much memory as the count beside it says; memory, wheel, block and last_ticket don't
+ * overlap; and calls on one desk are not made at the same time. That is all: no number needs to be checked before a call. (A block of
+ * 0 bytes may be a null pointer.)
+ *
+ * WHAT A CALL NEVER DOES. It doesn't wait, allocate, take a lock, call out or keep a pointer, and it ends after a bounded number of
+ * steps: so each may be called from an interrupt, if no other call on the same desk was interrupted by it. It touches no byte outside
+ * of what it was lent. Memory that no calls made (noise, say) gets answers that mean nothing, and no harm is done.
+ *
+ * REFUSALS. Each call has one number for its refusal, and 0 where there is none: the function's result, or the first member of its
+ * record, `refused`. With a refusal the other members are 0, and nothing is altered: no word of the memory, no byte of the block, not the
+ * wheel, not the last ticket. The one exception is a block that pella_take_in refuses: its byte 7 becomes the number (unless fewer
+ * than 8 bytes were lent, or the number is 201).
+ */
+#ifndef PELLACROSTA_H
+#define PELLACROSTA_H
+
+#include <stdbool.h>
+#include <stddef.h>
+#include <stdint.h>
+
+#ifdef __cplusplus
+extern "C" {
+#endif
+
+/* How many words of 32 bits a desk needs. More may be lent; the rest isn't touched. */
+#define PELLA_WORDS 838
+
+/* How many requests may be live (taken in and not handed back), how many of them active, and how many units there are. */
+#define PELLA_LIVE 32
+#define PELLA_ACTIVE 8
+#define PELLA_UNITS 64
+
+/* The number of the unit at a target (0 to 7; 7 is the board itself and no device) and a LUN (0 to 7). */
+#define PELLA_UNIT(target, lun) ((uint32_t)(target) * 8 + (uint32_t)(lun))
+
+/* The clock, in seconds, and the rotation mark: the unit that was sent to last. */
+struct pella_wheel {
+    uint32_t clock;
+    uint8_t mark;
+};
+
+/* A fresh wheel: clock 0, mark 63. */
+#define PELLA_FRESH_WHEEL { 0, 63 }
+
+/* ---- the numbers of refusals */
+
+/* The block's, as written to its byte 7 (the names are the standard's). */
+#define PELLA_UNABLE_TO_ABORT 0x03   /* abort: the request is finished or unknown */
+#define PELLA_CAM_BUSY 0x05          /* all PELLA_LIVE requests are live, or the last ticket, FFFFFFFFh, was given */
+#define PELLA_INVALID_REQUEST 0x06   /* function code, target, LUN or CDB length; or a live request has the same address */
+#define PELLA_INVALID_PATH 0x07      /* path is not 0 */
+#define PELLA_LENGTH_INADEQUATE 0x15 /* fewer than 8 bytes lent; length field below 88 or above the bytes lent */
+#define PELLA_CANNOT_PROVIDE 0x16    /* scatter/gather, tags, linked, CDB is a pointer; data length above FFFFFFh */
+/* The desk's. */
+#define PELLA_NOT_ACTIVE 101     /* report: no active request has this ticket */
+#define PELLA_IMPLAUSIBLE 102    /* report: moved above 7FFFFFFFh; more sense than asked for; abort done, and nobody asked and nothing overdue */
+#define PELLA_NO_SUCH_UNIT 103   /* freeze, release: unit above 63 */
+#define PELLA_NONE_FINISHED 104  /* hand back: the finished line is empty */
+#define PELLA_NOT_ITS_BLOCK 105  /* hand back: fewer than 88 bytes lent, or bytes 0 to 3 are not the first request's address */
+/* The library's own. */
+#define PELLA_TOO_FEW_WORDS 201  /* any call: fewer than PELLA_WORDS words lent. Comes before every other, and nothing else is looked at */
+#define PELLA_NO_SUCH_EVENT 202  /* report: the kind is none of those below. 202 to 204 come before 101 and 102 */
+#define PELLA_NO_SUCH_STATUS 203 /* report: a complete event with a SCSI status above 255 */
+#define PELLA_NO_SUCH_SENSE 204  /* report: a complete event with a sense above PELLA_SENSE_NONE */
+
+/* ---- what the adapter reports: the kinds of event. They are the standard's numbers for such an end. */
+
+#define PELLA_COMPLETE 0x01 /* the only kind that has a SCSI status and a sense */
+#define PELLA_ABORT_DONE 0x02
+#define PELLA_SELECTION_TIMEOUT 0x0A
+#define PELLA_PARITY 0x0F
+#define PELLA_BUS_FREE 0x13
+#define PELLA_PHASE 0x14
+#define PELLA_ADAPTER_ERROR 0x19
+
+/* The sense of a complete event: how many bytes came, 0 to 255, or one of these. */
+#define PELLA_SENSE_FAILED 256
+#define PELLA_SENSE_NONE 257
+
+/* ---- the status byte that a handed back block is told: a base status, and two bits */
+
+#define PELLA_STATUS_BASE 0x3F
+#define PELLA_STATUS_FROZEN 0x40 /* the unit was frozen after this end: nothing is sent to it before pella_release */
+#define PELLA_STATUS_SENSED 0x80 /* sense was looked at and at least one byte came */
+
+#define PELLA_DONE 0x01              /* completed without error. LOOK AT THE RESIDUAL: a short read is 01h too */
+#define PELLA_ABORTED 0x02           /* aborted, as the host asked */
+#define PELLA_WITH_ERROR 0x04        /* completed with a SCSI status that is neither 00h nor 04h */
+#define PELLA_TIMED_OUT 0x0B         /* it was overdue */
+#define PELLA_BUS_RESET 0x0E         /* ended by a bus reset */
+#define PELLA_SENSE_UNREAD 0x10      /* check condition, and no sense came */
+#define PELLA_OVERRUN 0x12           /* more bytes moved than asked: the residual is below zero */
+/* and PELLA_SELECTION_TIMEOUT, _PARITY, _BUS_FREE, _PHASE, _ADAPTER_ERROR as reported */
+
+/* ---- what the calls give */
+
+struct pella_taken {
+    uint32_t refused;
+    uint32_t ticket; /* from 1 upwards, each given once */
+};
+
+struct pella_sent {
+    uint32_t refused;
+    uint32_t ticket;
+    bool sent;       /* a request became active: put it on the bus. Else there is nothing to send now */
+    uint8_t unit;    /* target x 8 + LUN */
+    uint8_t looked;  /* how many units were looked at: 1 to 64; 0 where PELLA_ACTIVE requests are active already */
+    uint8_t cdb[12]; /* as they were when the request was taken in */
+};
+
+struct pella_first {
+    uint32_t refused;
+    uint32_t ticket;
+    uint32_t address;  /* the block's bytes 0 to 3 */
+    uint32_t callback; /* its bytes 28 to 31 */
+    bool found;        /* the finished line has a first request. Else it is empty */
+    bool wanted;       /* its callback disable flag is clear */
+};
+
+struct pella_handed {
+    uint32_t refused;
+    uint32_t ticket;
+    int32_t residual; /* data length minus bytes moved: above zero, so many bytes are missing; below zero, so many came too many */
+    uint8_t status;
+    uint8_t scsi_status;
+    uint8_t autosense_residual; /* sense length minus sense bytes, if sense was looked at, else 0 */
+};
+
+/* ---- the calls. `words` is how many words lie at `memory`: PELLA_WORDS or more. */
+
+/*
+ * A fresh board, from any words: no request, no unit frozen. With PELLA_FRESH_WHEEL and last ticket 0 it is a fresh desk.
+ * Returns 0, or 201.
+ */
+uint32_t pella_fresh(uint32_t *memory, size_t words);
+
+/*
+ * Takes a request in: `length` bytes at `block`, laid out as Table 20 of the standard says, little-endian. If it is accepted byte 7
+ * becomes 00h, the request has the next ticket, which *last_ticket becomes too, and waits on its unit: last, or first if its SIM Queue
+ * Priority flag asks for the head. The desk keeps what it needs of the block and no pointer; lend the same block again to
+ * pella_hand_back.
+ * Refused: 05h, 06h, 07h, 15h, 16h (also in byte 7, if 8 bytes were lent), 201.
+ */
+struct pella_taken pella_take_in(uint32_t *memory, size_t words, uint8_t *block, size_t length, uint32_t *last_ticket);
+
+/*
+ * Sends: the first unit after the mark on which something waits, that isn't frozen and has nothing active, is sent its first waiting
+ * request. The request becomes active, its time starts at wheel->clock, and wheel->mark becomes the unit. If nothing can be sent,
+ * nothing is altered. wheel->clock is never altered here.
+ * Refused: 201.
+ */
+struct pella_sent pella_send(uint32_t *memory, size_t words, struct pella_wheel *wheel);
+
+/*
+ * The adapter reports an event on an active request, with the bytes moved. The request ends and joins the finished line; if its base
+ * status is other than 01h its unit is frozen. scsi_status (0 to 255) and sense are looked at for PELLA_COMPLETE alone.
+ * Returns 0, or 101, 102, 201 to 204.
+ */
+uint32_t pella_report(uint32_t *memory, size_t words, uint32_t ticket, uint32_t kind, uint32_t scsi_status, uint32_t sense,
+                      uint32_t moved);
+
+/*
+ * Aborts a request. One that waits ends at once, with 02h and the whole data length missing. One that is active is marked, and ends
+ * when the adapter reports; report PELLA_ABORT_DONE for it when its abort is done.
+ * Returns 0, or 03h (it is finished or unknown), 201.
+ */
+uint32_t pella_abort(uint32_t *memory, size_t words, uint32_t ticket);
+
+/*
+ * Freezes a unit: nothing is sent to it. Releases it.
+ * Return 1 if it was frozen before, 0 if not, or 103, 201.
+ */
+uint32_t pella_freeze(uint32_t *memory, size_t words, uint32_t unit);
+uint32_t pella_release(uint32_t *memory, size_t words, uint32_t unit);
+
+/*
+ * A second has passed: wheel->clock goes on by one, from FFFFFFFFh to 0, and each active request whose time is over is overdue from
+ * then on. (Its timeout in seconds is in the block; 0 means 30, FFFFFFFFh never.) wheel->mark is never altered here.
+ * Returns 0, or 201.
+ */
+uint32_t pella_tick(uint32_t *memory, size_t words, struct pella_wheel *wheel);
+
+/*
+ * The bus was reset: every active request ends with 0Eh, the smallest ticket first, and its unit is frozen. Waiting ones stay.
+ * Returns 0, or 201.
+ */
+uint32_t pella_reset(uint32_t *memory, size_t words);
+
+/*
+ * Looks at the first request of the finished line, and alters nothing.
+ * Refused: 201.
+ */
+struct pella_first pella_look(const uint32_t *memory, size_t words);
+
+/*
+ * Hands the first finished request back, with its block lent again: bytes 7 (status), 52 (SCSI status), 53 (autosense residual) and 56
+ * to 59 (residual, two's complement) are written and no others, and the request's place is free.
+ * Refused: 104, then 105; 201.
+ */
+struct pella_handed pella_hand_back(uint32_t *memory, size_t words, uint8_t *block, size_t length);
+
+#ifdef __cplusplus
+}
+#endif
+
+#endif
