@@ -3,7 +3,6 @@
 use board::Aborting;
 use board::Freezing;
 use board::HandingBack;
-use board::Refusal;
 use board::Reporting;
 use board::Sending;
 use board::TakingIn;
@@ -15,7 +14,7 @@ ghost use Prim.Native.Nat.{_+_, _≤_, _<_};
 ghost use lib.Seq.{sets};
 ghost use lib.IntN.{pos, natAbs};
 ghost use lib.Signed.{ltZ};
-ghost use Rattle.board.specs.Answers.{number, done, time, handed, taking-in-says, sending-says, reporting-says, aborting-says, freezing-says, handing-back-says};
+ghost use Rattle.board.specs.Answers.{done, time, handed, taking-in-says, sending-says, reporting-says, aborting-says, freezing-says, handing-back-says};
 ghost use Rattle.answers.specs.Letters as letter;
 ghost use Rattle.answers.specs.Answer.{digits, place-from, places, decimal, signed, hex-digit, hex, refusal, after-tabs, print, unclear, head};
 ghost use Rattle.answers.specs.Put.{Put};
@@ -223,25 +222,13 @@ fn line_handed(out: &mut [u8; 64], ticket: Ticket, told: Told) -> usize
 
 // ---- the answer to each record
 
-fn number_of(why: Refusal) -> u8
-    ensures { λ r. ⌜ r ≡ number why ⌝ }
-{
-    match why {
-        Refusal::CamBusy => 0x05,
-        Refusal::InvalidRequest => 0x06,
-        Refusal::InvalidPath => 0x07,
-        Refusal::LengthInadequate => 0x15,
-        Refusal::CannotProvide => 0x16,
-    }
-}
-
 // S
 pub fn taking_in(a: TakingIn, out: &mut [u8; 64]) -> usize
     ensures { λ r. ⌜ Put 64 (now (out .entry)) (now (out .exit)) 0 r (print letter.S (taking-in-says a)) ⌝ }
 {
     match a {
         TakingIn::Taken(ticket) => line_submitted(out, 0x00, ticket.0),
-        TakingIn::Refused(why) => line_submitted(out, number_of(why), 0),
+        TakingIn::Refused(why) => line_submitted(out, board::number_of(why), 0),
     }
 }
 

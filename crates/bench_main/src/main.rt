@@ -4,7 +4,6 @@
 use board::Event;
 use board::HandingBack;
 use board::Looking;
-use board::Refusal;
 use board::Reporting;
 use board::Sending;
 use board::Sense;
@@ -12,23 +11,8 @@ use board::TakingIn;
 use board::Ticket;
 use board::Unit;
 use rows::WORDS;
-ghost use mathlib.Core.Path.{_≡_};
-ghost use Rattle.board.specs.Answers.{number};
 
 // ---- the answers' numbers
-
-// The number of a refusal.
-fn number_of(why: Refusal) -> u8
-    ensures { λ r. ⌜ r ≡ number why ⌝ }
-{
-    match why {
-        Refusal::CamBusy => 0x05,
-        Refusal::InvalidRequest => 0x06,
-        Refusal::InvalidPath => 0x07,
-        Refusal::LengthInadequate => 0x15,
-        Refusal::CannotProvide => 0x16,
-    }
-}
 
 // What taking in says: a ticket, or 0 and the refusal.
 struct Entry {
@@ -44,7 +28,7 @@ fn entry_of(a: TakingIn) -> Entry {
         },
         TakingIn::Refused(why) => Entry {
             ticket: 0,
-            number: number_of(why),
+            number: board::number_of(why),
         },
     }
 }

@@ -1,5 +1,7 @@
 // The kinds of thing that document 01 speaks of, declared once: the definitions in specs/ and the code of the crates
-// above use the same types. In document 01's order. There is no code here.
+// above use the same types. In document 01's order. There is no code here but the number of a refusal.
+ghost use mathlib.Core.Path.{_≡_};
+ghost use Rattle.board.specs.Answers.{number};
 
 // ---- what the board holds
 
@@ -112,6 +114,19 @@ pub enum Refusal {
     InvalidPath,
     LengthInadequate,
     CannotProvide,
+}
+
+// The number of a refusal.
+pub fn number_of(why: Refusal) -> u8
+    ensures { λ r. ⌜ r ≡ number why ⌝ }
+{
+    match why {
+        Refusal::CamBusy => 0x05,
+        Refusal::InvalidRequest => 0x06,
+        Refusal::InvalidPath => 0x07,
+        Refusal::LengthInadequate => 0x15,
+        Refusal::CannotProvide => 0x16,
+    }
 }
 
 // Taking a request in.

@@ -175,19 +175,6 @@ fn enter(mem: &mut [u32; WORDS], p: Place, q: Request, front: bool)
     }
 }
 
-// The number of a refusal.
-fn number_of(why: Refusal) -> u8
-    ensures { λ r. ⌜ r ≡ number why ⌝ }
-{
-    match why {
-        Refusal::CamBusy => 0x05,
-        Refusal::InvalidRequest => 0x06,
-        Refusal::InvalidPath => 0x07,
-        Refusal::LengthInadequate => 0x15,
-        Refusal::CannotProvide => 0x16,
-    }
-}
-
 // What taking in gives: the answer, and the last ticket given afterwards.
 pub struct Took {
     pub answer: TakingIn,
@@ -198,7 +185,7 @@ pub struct Took {
 fn refuse(block: &mut [u8], why: Refusal, given: u32) -> Took
     ensures { λ r. ⌜ (now (block .exit) ≡ with-status (number why) (now (block .entry))) × (taking-in-says (r .answer) ≡ refused (number why)) × (r .given ≡ given) ⌝ }
 {
-    block::write_status(block, number_of(why));
+    block::write_status(block, board::number_of(why));
     Took {
         answer: TakingIn::Refused(why),
         given,
