@@ -1,4 +1,4 @@
--- C is told exactly what the board answers. Assumes nothing.
+-- The numbers that C is given are document 01's. Assumes nothing.
 use mathlib.Core.Path.{_≡_, refl}
 use Rattle.board.specs.declared.TakingIn.{TakingIn}
 use Rattle.board.specs.declared.TakingIn.the-variants.{Taken, Refused}
@@ -55,35 +55,6 @@ handing-back (back.Handed t x) = refl
 handing-back back.Empty = refl
 handing-back back.NotItsBlock = refl
 
-one-taken : (a a' : TakingIn) → taking-in-says a ≡ taking-in-says a' → as-taken a ≡ as-taken a'
-one-taken (Taken t) (Taken t') e = cc
-one-taken (Taken t) (Refused why) e = cc
-one-taken (Refused why) (Taken t) e = cc
-one-taken (Refused why) (Refused why') e = cc
-
-one-sent : (a a' : Sending) → sending-says a ≡ sending-says a' → as-sent a ≡ as-sent a'
-one-sent (Sent t u cdb looked) (Sent t' u' cdb' looked') e = cc
-one-sent (Sent t u cdb looked) (Nothing looked') e = cc
-one-sent (Nothing looked) (Sent t u cdb looked') e = cc
-one-sent (Nothing looked) (Nothing looked') e = cc
-
-one-first : (a a' : Looking) → looking-says a ≡ looking-says a' → as-first a ≡ as-first a'
-one-first (looked.First t address callback wanted) (looked.First t' address' callback' wanted') e = cc
-one-first (looked.First t address callback wanted) looked.Empty e = cc
-one-first looked.Empty (looked.First t address callback wanted) e = cc
-one-first looked.Empty looked.Empty e = refl
-
-one-handed : (a a' : HandingBack) → handing-back-says a ≡ handing-back-says a' → as-handed a ≡ as-handed a'
-one-handed (back.Handed t x) (back.Handed t' x') e = cc
-one-handed (back.Handed t x) back.Empty e = cc
-one-handed (back.Handed t x) back.NotItsBlock e = cc
-one-handed back.Empty (back.Handed t x) e = cc
-one-handed back.Empty back.Empty e = refl
-one-handed back.Empty back.NotItsBlock e = cc
-one-handed back.NotItsBlock (back.Handed t x) e = cc
-one-handed back.NotItsBlock back.Empty e = cc
-one-handed back.NotItsBlock back.NotItsBlock e = refl
-
 pub exact : Exact
 exact = record {
   taking-in = taking-in;
@@ -93,8 +64,4 @@ exact = record {
   freezing = freezing;
   looking = looking;
   handing-back = handing-back;
-  one-taken = one-taken;
-  one-sent = one-sent;
-  one-first = one-first;
-  one-handed = one-handed;
 }

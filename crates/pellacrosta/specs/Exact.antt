@@ -1,5 +1,4 @@
--- That C is told exactly what the board answers: its numbers are document 01's, and where two answers say the same C is given the same.
--- With `one-answer` of the desk's sessions only one outcome fits an exported call. proofs/Exactly.antt proves it. Assumes nothing.
+-- That the numbers C is given are document 01's. proofs/Exactly.antt proves it. Assumes nothing.
 use Prim.Native.Nat.{ℕ}
 use mathlib.Core.Path.{_≡_}
 use Rattle.board.specs.declared.TakingIn.{TakingIn}
@@ -33,8 +32,3 @@ pub record Exact : Type 0 where
   pub freezing : (a : Freezing) → as-frozen a ≡ number (freezing-says a)
   pub looking : (a : Looking) → as-first a .refused ≡ number (looking-says a)
   pub handing-back : (a : HandingBack) → as-handed a .refused ≡ number (handing-back-says a)
-  -- (where C is given one number, that says it already)
-  pub one-taken : (a a' : TakingIn) → taking-in-says a ≡ taking-in-says a' → as-taken a ≡ as-taken a'
-  pub one-sent : (a a' : Sending) → sending-says a ≡ sending-says a' → as-sent a ≡ as-sent a'
-  pub one-first : (a a' : Looking) → looking-says a ≡ looking-says a' → as-first a ≡ as-first a'
-  pub one-handed : (a a' : HandingBack) → handing-back-says a ≡ handing-back-says a' → as-handed a ≡ as-handed a'
