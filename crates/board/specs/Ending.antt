@@ -4,7 +4,7 @@ use mathlib.Core.Option.{Option, none, some}
 use mathlib.Core.List.{List, [], _∷_, _++_}
 use Prim.Native.Nat.{ℕ, _+_, _-_}
 use lib.IntN.{pos, _-ℤ_}
-use Rattle.board.specs.Types.{Ticket, Request, Active, Told, Sense, Bytes, Failed, None, Event, AbortDone, SelectionTimeout, Parity, BusFree, Phase, AdapterError, Complete, End, Ending, Ended, Refused}
+use Rattle.board.specs.Types.{Ticket, Request, Active, Told, Sense, Bytes, Failed, None, Event, AbortDone, SelectionTimeout, Parity, BusFree, Phase, AdapterError, Complete, Coded, Names, Nothing, End, Ending, Ended, Refused}
 use Rattle.board.specs.Plain.{if_then_else_, _=?_, _<?_, _≤?_, Row, _⇒_, first-that-applies}
 use Rattle.board.specs.Board.{find, without, ticket-of-active, data-length, sense-length, Freeze, is-frozen, one-freeze, Board, with-active, with-finished, with-freeze}
 use Rattle.board.specs.Answers.{refused, done, Stepped, says}
@@ -38,6 +38,16 @@ own-status BusFree = 0x13
 own-status Phase = 0x14
 own-status AdapterError = 0x19
 own-status (Complete scsi sense) = 0
+
+-- the event that such a code names, or none
+unfoldable pub event-named : ℕ → Coded
+event-named n =
+    if n =? 0x0A then Names SelectionTimeout
+    else if n =? 0x0F then Names Parity
+    else if n =? 0x13 then Names BusFree
+    else if n =? 0x14 then Names Phase
+    else if n =? 0x19 then Names AdapterError
+    else Nothing
 
 -- SCSI status is the event's for "complete", else 0.
 abbrev pub scsi-status : Event → ℕ

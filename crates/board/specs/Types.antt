@@ -12,6 +12,8 @@ pub use Rattle.board.specs.declared.Sense.{Sense}
 pub use Rattle.board.specs.declared.Sense.the-variants.{Bytes, Failed, None}
 pub use Rattle.board.specs.declared.Event.{Event}
 pub use Rattle.board.specs.declared.Event.the-variants.{AbortDone, SelectionTimeout, Parity, BusFree, Phase, AdapterError, Complete}
+pub use Rattle.board.specs.declared.Coded.{Coded}
+pub use Rattle.board.specs.declared.Coded.the-variants.{Names, Nothing}
 pub use Rattle.board.specs.declared.End.{End}
 pub use Rattle.board.specs.declared.Ending.{Ending}
 pub use Rattle.board.specs.declared.Ending.the-variants.{Ended, Refused}

@@ -1,7 +1,9 @@
 // The kinds of thing that document 01 speaks of, declared once: the definitions in specs/ and the code of the crates
-// above use the same types. In document 01's order. There is no code here but the number of a refusal.
+// above use the same types. In document 01's order. There is no code here but what numbers name: an event's code, a refusal's
+// number.
 ghost use mathlib.Core.Path.{_≡_};
 ghost use Rattle.board.specs.Answers.{number};
+ghost use Rattle.board.specs.Ending.{event-named};
 
 // ---- what the board holds
 
@@ -87,6 +89,34 @@ pub enum Event {
     Phase,
     AdapterError,
     Complete { status: u8, sense: Sense },
+}
+
+// What a code names: an event that has a status of its own, or none.
+pub enum Coded {
+    Names(Event),
+    Nothing,
+}
+
+// The event that a code names.
+pub fn event_named(code: u32) -> Coded
+    ensures { λ r. ⌜ r ≡ event-named code ⌝ }
+{
+    if code == 0x0A {
+        return Coded::Names(Event::SelectionTimeout);
+    }
+    if code == 0x0F {
+        return Coded::Names(Event::Parity);
+    }
+    if code == 0x13 {
+        return Coded::Names(Event::BusFree);
+    }
+    if code == 0x14 {
+        return Coded::Names(Event::Phase);
+    }
+    if code == 0x19 {
+        return Coded::Names(Event::AdapterError);
+    }
+    Coded::Nothing
 }
 
 // What an end is made of, before it is known whether its unit is frozen: the base status, the SCSI status, whether sense

@@ -8,7 +8,10 @@ use Rattle.board.specs.Plain.{if_then_else_, _=?_, _≤?_}
 use Rattle.board.specs.Board.{the-ticket}
 use Rattle.board.specs.declared.Ticket.{Ticket}
 use Rattle.board.specs.declared.Event.{Event}
-use Rattle.board.specs.declared.Event.the-variants.{AbortDone, SelectionTimeout, Parity, BusFree, Phase, AdapterError, Complete}
+use Rattle.board.specs.declared.Event.the-variants.{AbortDone, Complete}
+use Rattle.board.specs.declared.Coded.{Coded}
+use Rattle.board.specs.declared.Coded.the-variants.{Names, Nothing}
+use Rattle.board.specs.Ending.{event-named}
 use Rattle.board.specs.declared.Sense.the-variants.{Bytes, Failed, None}
 use Rattle.lines.specs.Text.{fields, number, code, are-bytes, bytes}
 use Rattle.lines.specs.declared.Code.{Code}
@@ -35,14 +38,12 @@ pub data Record : Type 0 where
 -- ---- single fields
 
 -- what a code names: selection timeout, parity, bus free, phase, adapter error
-unfoldable pub named : ℕ → Kind
-named n =
-    if n =? 0x0A then Plain SelectionTimeout
-    else if n =? 0x0F then Plain Parity
-    else if n =? 0x13 then Plain BusFree
-    else if n =? 0x14 then Plain Phase
-    else if n =? 0x19 then Plain AdapterError
-    else NoKind
+abbrev pub kind-named : Coded → Kind
+kind-named (Names e) = Plain e
+kind-named Nothing = NoKind
+
+abbrev pub named : ℕ → Kind
+named n = kind-named (event-named n)
 
 abbrev pub code-kind : Code → Kind
 code-kind (Byte n) = named n

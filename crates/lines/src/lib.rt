@@ -1,4 +1,5 @@
 // One record of the replay's log: a line's bytes to a record. The types, then single fields, events, blocks, the line.
+use board::Coded;
 use board::Event;
 use board::Sense;
 use board::Ticket;
@@ -150,22 +151,10 @@ fn read_code(s: &[u8]) -> Code
 fn named_kind(n: u8) -> Kind
     ensures { λ r. ⌜ r ≡ named n ⌝ }
 {
-    if n == 0x0A {
-        return Kind::Plain(Event::SelectionTimeout);
+    match board::event_named(n as u32) {
+        Coded::Names(e) => Kind::Plain(e),
+        Coded::Nothing => Kind::NoKind,
     }
-    if n == 0x0F {
-        return Kind::Plain(Event::Parity);
-    }
-    if n == 0x13 {
-        return Kind::Plain(Event::BusFree);
-    }
-    if n == 0x14 {
-        return Kind::Plain(Event::Phase);
-    }
-    if n == 0x19 {
-        return Kind::Plain(Event::AdapterError);
-    }
-    Kind::NoKind
 }
 
 fn kind_of(n: Code) -> Kind

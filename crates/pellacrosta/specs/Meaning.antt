@@ -2,11 +2,14 @@
 -- Assumes nothing.
 use Prim.Native.Nat.{ℕ}
 use Rattle.board.specs.declared.Unit.{Unit}
-use Rattle.board.specs.declared.Event.the-variants.{AbortDone, SelectionTimeout, Parity, BusFree, Phase, AdapterError, Complete}
+use Rattle.board.specs.declared.Event.the-variants.{AbortDone, Complete}
+use Rattle.board.specs.declared.Coded.{Coded}
+use Rattle.board.specs.declared.Coded.the-variants.{Names, Nothing}
 use Rattle.board.specs.declared.Sense.{Sense}
 use Rattle.board.specs.declared.Sense.the-variants.{Bytes, Failed, None}
 use Rattle.board.specs.Plain.{if_then_else_, _=?_, _<?_}
 use Rattle.board.specs.Board.{the-unit}
+use Rattle.board.specs.Ending.{event-named}
 use Rattle.pellacrosta.specs.declared.Meant.{Meant}
 use Rattle.pellacrosta.specs.declared.Meant.the-variants.{Event, Unclear}
 
@@ -21,17 +24,17 @@ complete-meant scsi sense =
     else if 257 <? sense then Unclear 204
     else Event (Complete scsi (sense-meant sense))
 
--- an event by its kind: 01h for complete, 02h for abort done, and the codes of document 01; any other is none (202)
+-- what a code of document 01 names, and any other number (202)
+abbrev pub code-meant : Coded → Meant
+code-meant (Names e) = Event e
+code-meant Nothing = Unclear 202
+
+-- an event by its kind: 01h for complete, 02h for abort done, or a code
 abbrev pub event-meant : (kind scsi sense : ℕ) → Meant
 event-meant kind scsi sense =
     if kind =? 0x01 then complete-meant scsi sense
     else if kind =? 0x02 then Event AbortDone
-    else if kind =? 0x0A then Event SelectionTimeout
-    else if kind =? 0x0F then Event Parity
-    else if kind =? 0x13 then Event BusFree
-    else if kind =? 0x14 then Event Phase
-    else if kind =? 0x19 then Event AdapterError
-    else Unclear 202
+    else code-meant (event-named kind)
 
 -- a unit in the 8 bits that the desk takes: a number that doesn't fit is no unit, and neither is 255
 abbrev pub unit-meant : ℕ → Unit

@@ -3,6 +3,7 @@
 // nothing. In this order: the records that C is given; what a number of C means; what an answer is in C; the calls.
 use board::Aborting;
 use board::Cdb;
+use board::Coded;
 use board::Event;
 use board::Freezing;
 use board::HandingBack;
@@ -114,22 +115,10 @@ fn event_meant(kind: u32, scsi: u32, sense: u32) -> Meant
     if kind == 0x02 {
         return Meant::Event(Event::AbortDone);
     }
-    if kind == 0x0A {
-        return Meant::Event(Event::SelectionTimeout);
+    match board::event_named(kind) {
+        Coded::Names(what) => Meant::Event(what),
+        Coded::Nothing => Meant::Unclear(202),
     }
-    if kind == 0x0F {
-        return Meant::Event(Event::Parity);
-    }
-    if kind == 0x13 {
-        return Meant::Event(Event::BusFree);
-    }
-    if kind == 0x14 {
-        return Meant::Event(Event::Phase);
-    }
-    if kind == 0x19 {
-        return Meant::Event(Event::AdapterError);
-    }
-    Meant::Unclear(202)
 }
 
 // ---- what an answer is in C

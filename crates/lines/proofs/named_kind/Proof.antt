@@ -1,32 +1,24 @@
 -- `lines::named_kind` meets its contract. Assumes nothing.
-use Rattle.lines.specs.Record.{named}
-use borrow.Author.Tests.{eq-eqb, ne-eqb}
+use mathlib.Core.Path.{sym, ap, _∙_}
+use Rattle.lines.specs.Record.{kind-named}
+use borrow.Author.Needs.{needs}
 use Rattle.lines.proofs.named_kind.Statement.{statement}
 use Rattle.lines.proofs.named_kind.Tie as tie
 
+event-named-requires : tie.Need-event-named-requires
+event-named-requires c κs = search needs
+
+enum-known-e : tie.Need-enum-known-e
+enum-known-e c = search needs
+
+enum-told : tie.Need-enum-told
+enum-told c = search needs
+
 returns : tie.Need-returns
-unfolding named
-returns c = rw (eq-eqb _ 10 (c .if1 .taken))
+returns c = ap kind-named (sym (c .before .e .given .1) ∙ c .before .before .before .event-named .ensures)
 
 returns-2 : tie.Need-returns-2
-unfolding named
-returns-2 c = rw (ne-eqb _ 10 (c .before .if1 .left), eq-eqb _ 15 (c .if2 .taken))
-
-returns-3 : tie.Need-returns-3
-unfolding named
-returns-3 c = rw (ne-eqb _ 10 (c .before .before .if1 .left), ne-eqb _ 15 (c .before .if2 .left), eq-eqb _ 19 (c .if3 .taken))
-
-returns-4 : tie.Need-returns-4
-unfolding named
-returns-4 c = rw (ne-eqb _ 10 (c .before .before .before .if1 .left), ne-eqb _ 15 (c .before .before .if2 .left), ne-eqb _ 19 (c .before .if3 .left), eq-eqb _ 20 (c .if4 .taken))
-
-returns-5 : tie.Need-returns-5
-unfolding named
-returns-5 c = rw (ne-eqb _ 10 (c .before .before .before .before .if1 .left), ne-eqb _ 15 (c .before .before .before .if2 .left), ne-eqb _ 19 (c .before .before .if3 .left), ne-eqb _ 20 (c .before .if4 .left), eq-eqb _ 25 (c .if5 .taken))
-
-returns-6 : tie.Need-returns-6
-unfolding named
-returns-6 c = rw (ne-eqb _ 10 (c .before .before .before .before .if1 .left), ne-eqb _ 15 (c .before .before .before .if2 .left), ne-eqb _ 19 (c .before .before .if3 .left), ne-eqb _ 20 (c .before .if4 .left), ne-eqb _ 25 (c .if5 .left))
+returns-2 c = ap kind-named (sym (c .enum-told .given .1) ∙ c .before .before .event-named .ensures)
 
 pub named-kind-spec : {M : Type 1} → statement M
-named-kind-spec = tie.close (tie.spec returns returns-2 returns-3 returns-4 returns-5 returns-6)
+named-kind-spec = tie.close (tie.spec event-named-requires enum-known-e enum-told returns returns-2)
