@@ -7,28 +7,27 @@
  *
  * Link with -lpellacrosta (or target/staticlib/libpellacrosta.a), on x86-64. The archive needs no other library, not even C's.
  *
- * THE MEMORY. A desk is PELLA_WORDS words of 32 bits that the caller lends with each call, aligned as uint32_t is; a wheel (clock and
- * rotation mark), aligned as a struct pella_wheel is; and the last ticket given. Make them with pella_fresh, PELLA_FRESH_WHEEL and 0,
- * leave them alone between calls, and lend the same three each time. Nothing is kept anywhere else, so there may be as many desks as
- * there is memory for.
+ * THE MEMORY. A desk is PELLA_WORDS words of 32 bits, a wheel (clock and rotation mark) and the last ticket given. The caller has them,
+ * aligned as their types are, and lends them with each call. Make them with pella_fresh, PELLA_FRESH_WHEEL and 0, leave them alone
+ * between calls, and lend the same three each time. Nothing is kept anywhere else, so there may be as many desks as there is memory for.
  *
  *     uint32_t memory[PELLA_WORDS];
  *     struct pella_wheel wheel = PELLA_FRESH_WHEEL;
  *     uint32_t last_ticket = 0;
  *     pella_fresh(memory, PELLA_WORDS);
  *
- * WHAT A CALLER OWES. A pointer leads to as much memory as the count beside it says; memory, wheel, block and last_ticket don't
- * overlap; and calls on one desk are not made at the same time. That is all: no number needs to be checked before a call. (A block of
- * 0 bytes may be a null pointer.)
+ * WHAT A CALLER OWES. A pointer leads to what its type says, and to as many of them as the count beside it; memory, wheel, block and
+ * last_ticket don't overlap; and calls on one desk are not made at the same time. That is all: no number needs to be checked before a
+ * call. (A block of 0 bytes may be a null pointer.)
  *
  * WHAT A CALL NEVER DOES. It doesn't wait, allocate, take a lock, call out or keep a pointer, and it ends after a bounded number of
  * steps: so each may be called from an interrupt, if no other call on the same desk was interrupted by it. It touches no byte outside
  * of what it was lent. Memory that no calls made (noise, say) gets answers that mean nothing, and no harm is done.
  *
  * REFUSALS. Each call has one number for its refusal, and 0 where there is none: the function's result, or the first member of its
- * record, `refused`. With a refusal the other members are 0, and nothing is altered: no word of the memory, no byte of the block, not the
- * wheel, not the last ticket. The one exception is a block that pella_take_in refuses: its byte 7 becomes the number (unless fewer
- * than 8 bytes were lent, or the number is 201).
+ * record, `refused`. (pella_freeze and pella_release return 0 or 1 where there is none.) With a refusal the other members are 0, and
+ * nothing is altered: no word of the memory, no byte of the block, not the wheel, not the last ticket. The one exception is a block that
+ * pella_take_in refuses: its byte 7 becomes the number (unless fewer than 8 bytes were lent, or the number is 201).
  */
 #ifndef PELLACROSTA_H
 #define PELLACROSTA_H
@@ -63,19 +62,20 @@ struct pella_wheel {
 
 /* ---- the numbers of refusals */
 
-/* The block's, as written to its byte 7 (the names are the standard's). */
-#define PELLA_UNABLE_TO_ABORT 0x03   /* abort: the request is finished or unknown */
+/* Taking in, also written to the block's byte 7 (the names are the standard's). */
 #define PELLA_CAM_BUSY 0x05          /* all PELLA_LIVE requests are live, or the last ticket, FFFFFFFFh, was given */
 #define PELLA_INVALID_REQUEST 0x06   /* function code, target, LUN or CDB length; or a live request has the same address */
 #define PELLA_INVALID_PATH 0x07      /* path is not 0 */
 #define PELLA_LENGTH_INADEQUATE 0x15 /* fewer than 8 bytes lent; length field below 88 or above the bytes lent */
 #define PELLA_CANNOT_PROVIDE 0x16    /* scatter/gather, tags, linked, CDB is a pointer; data length above FFFFFFh */
-/* The desk's. */
-#define PELLA_NOT_ACTIVE 101     /* report: no active request has this ticket */
-#define PELLA_IMPLAUSIBLE 102    /* report: moved above 7FFFFFFFh; more sense than asked for; abort done, and nobody asked and nothing overdue */
-#define PELLA_NO_SUCH_UNIT 103   /* freeze, release: unit above 63 */
-#define PELLA_NONE_FINISHED 104  /* hand back: the finished line is empty */
-#define PELLA_NOT_ITS_BLOCK 105  /* hand back: fewer than 88 bytes lent, or bytes 0 to 3 are not the first request's address */
+/* The other calls. */
+#define PELLA_UNABLE_TO_ABORT 0x03 /* abort: the request is finished or unknown */
+#define PELLA_NOT_ACTIVE 101       /* report: no active request has this ticket */
+#define PELLA_IMPLAUSIBLE 102      /* report: moved above 7FFFFFFFh; sense looked at, and more came than asked for; abort done, and the
+                                      request is neither asked nor overdue */
+#define PELLA_NO_SUCH_UNIT 103     /* freeze, release: unit above 63 */
+#define PELLA_NONE_FINISHED 104    /* hand back: the finished line is empty */
+#define PELLA_NOT_ITS_BLOCK 105    /* hand back: fewer than 88 bytes lent, or bytes 0 to 3 are not the first request's address */
 /* The library's own. */
 #define PELLA_TOO_FEW_WORDS 201  /* any call: fewer than PELLA_WORDS words lent. Comes before every other, and nothing else is looked at */
 #define PELLA_NO_SUCH_EVENT 202  /* report: the kind is none of those below. 202 to 204 come before 101 and 102 */
@@ -92,7 +92,10 @@ struct pella_wheel {
 #define PELLA_PHASE 0x14
 #define PELLA_ADAPTER_ERROR 0x19
 
-/* The sense of a complete event: how many bytes came, 0 to 255, or one of these. */
+/*
+ * The sense of a complete event: how many bytes came, 0 to 255, or one of these. It is looked at only for SCSI status 02h (check
+ * condition), if the block doesn't disable autosense and asks for at least one byte of it.
+ */
 #define PELLA_SENSE_FAILED 256
 #define PELLA_SENSE_NONE 257
 
@@ -107,7 +110,7 @@ struct pella_wheel {
 #define PELLA_WITH_ERROR 0x04        /* completed with a SCSI status that is neither 00h nor 04h */
 #define PELLA_TIMED_OUT 0x0B         /* it was overdue */
 #define PELLA_BUS_RESET 0x0E         /* ended by a bus reset */
-#define PELLA_SENSE_UNREAD 0x10      /* check condition, and no sense came */
+#define PELLA_SENSE_UNREAD 0x10      /* check condition, sense was looked at, and none came */
 #define PELLA_OVERRUN 0x12           /* more bytes moved than asked: the residual is below zero */
 /* and PELLA_SELECTION_TIMEOUT, _PARITY, _BUS_FREE, _PHASE, _ADAPTER_ERROR as reported */
 

@@ -145,7 +145,7 @@ impl fmt::Display for Status {
             0x0B => "timed out",
             0x0E => "bus reset",
             0x0F => "parity error",
-            0x10 => "check condition, and no sense came",
+            0x10 => "check condition, and none of the sense asked for came",
             0x12 => "more bytes moved than asked",
             0x13 => "unexpected bus free",
             0x14 => "wrong phase",

@@ -47,7 +47,7 @@ refusals! {
     0x15 LengthInadequate "taking in: fewer than 8 bytes lent; length field below 88 or above the bytes lent",
     0x16 CannotProvide "taking in: scatter/gather, tags, linked, CDB is a pointer; data length above FFFFFFh",
     101 NotActive "report: no active request has this ticket",
-    102 Implausible "report: moved above 7FFFFFFFh; more sense than asked for; abort done, and nobody asked and nothing overdue",
+    102 Implausible "report: moved above 7FFFFFFFh; sense is looked at and more came than asked for; abort done, and the request is neither asked nor overdue",
     103 NoSuchUnit "freeze, release: unit above 63",
     104 NoneFinished "hand back: the finished line is empty",
     105 NotItsBlock "hand back: fewer than 88 bytes lent, or bytes 0 to 3 are not the first request's address",
