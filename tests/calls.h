@@ -8,7 +8,7 @@
 #include <pellacrosta.h>
 #include <string.h>
 
-/* ---- chance (splitmix64) */
+/* ---- chance (splitmix64). No expression asks it twice but one after the other, so that a seed means the same to every compiler. */
 
 static uint64_t chance_state;
 
@@ -28,7 +28,8 @@ static inline bool one_in(uint32_t bound) { return below(bound) == 0; }
 /* A number near one of the edges that the header names, or any. */
 static inline uint32_t any_number(void) {
     static const uint32_t edges[] = { 0, 1, 8, 32, 63, 64, 70, 88, 255, 256, 257, 0xFFFFFF, 0x7FFFFFFF, 0x80000000, 0xFFFFFFFF };
-    return one_in(2) ? PICK(edges) + below(3) - 1 : one_in(2) ? below(256) : chance();
+    uint32_t edge = PICK(edges);
+    return one_in(2) ? edge - 1 + below(3) : one_in(2) ? below(256) : chance();
 }
 
 static inline void noise(uint8_t *at, size_t bytes) {
@@ -134,6 +135,7 @@ enum stage { NONE, WAITING, ACTIVE, FINISHED };
 struct request {
     enum stage stage;
     uint32_t ticket;
+    uint32_t moved, scsi_status; /* as reported; 0 if nothing was */
     size_t length;
     uint8_t block[BLOCK_MOST];
 };
@@ -177,9 +179,18 @@ static inline bool enter(uint32_t ticket, const uint8_t *block, size_t length) {
         return false;
     request->stage = WAITING;
     request->ticket = ticket;
+    request->moved = 0;
+    request->scsi_status = 0;
     request->length = length;
     memcpy(request->block, block, length);
     return true;
+}
+
+/* Enters an event that was accepted. */
+static inline void enter_end(struct request *request, uint32_t event, uint32_t scsi_status, uint32_t moved) {
+    request->stage = FINISHED;
+    request->moved = moved;
+    request->scsi_status = event == PELLA_COMPLETE ? scsi_status : 0;
 }
 
 static inline void enter_reset(void) {
@@ -250,7 +261,7 @@ static inline void some_event(struct call *call) {
     call->sense = one_in(3) ? below(258) : (sense_asked + 259 - below(3)) % 258;
     if (one_in(4))
         call->sense = one_in(2) ? PELLA_SENSE_NONE : PELLA_SENSE_FAILED;
-    call->moved = one_in(8) ? any_number() : one_in(2) ? asked : asked + below(65) - below(65);
+    call->moved = one_in(8) ? any_number() : one_in(2) ? asked : asked + below(129) - 64;
 }
 
 /* A call of this kind; a block that is taken in has at most so many bytes. The block of a hand-back is the caller's matter. */

@@ -80,7 +80,7 @@ static void report(const struct call *call) {
     if (refused == 0) {
         struct request *request = request_of(call->ticket);
         must(request != NULL && request->stage == ACTIVE, "report: the ticket isn't active");
-        request->stage = FINISHED;
+        enter_end(request, call->event, call->scsi_status, call->moved);
     }
 }
 

@@ -65,7 +65,7 @@ enum layout { AT_START, AT_END, BETWEEN, LAYOUTS };
 struct manner {
     size_t words;
     enum layout layout;
-    bool trapping; /* too few words, and they and the block lie where any touch traps */
+    bool trapping; /* too few words, and whatever is lent lies where any touch traps: nothing is looked at then */
     bool null;     /* a block of 0 bytes is a null pointer */
 };
 
@@ -89,10 +89,10 @@ static void fail(const char *what) {
     char text[1000];
     int length = snprintf(text, sizeof text,
                           "stress: seed %llu, call %llu: %s\n"
-                          "stress: it was pella_%s on %s: %zu words, lent %s%s; ticket %u, unit %u, kind %u, SCSI status %u, sense %u, "
+                          "stress: it was pella_%s on %s: %zu words, lent %s; ticket %u, unit %u, kind %u, SCSI status %u, sense %u, "
                           "moved %u, block of %zu bytes; clock %u, mark %u, last ticket %u\n",
                           (unsigned long long)seed, (unsigned long long)call_number, what, kind_names[call->kind], now.memory,
-                          now.manner.words, layout_names[now.manner.layout], now.manner.trapping ? ", words and block among traps" : "",
+                          now.manner.words, now.manner.trapping ? "where any touch traps" : layout_names[now.manner.layout],
                           call->ticket, call->unit, call->event, call->scsi_status, call->sense, call->moved, call->length,
                           now.before->clock, now.before->mark, now.before->last_ticket);
     if (write(STDOUT_FILENO, text, (size_t)length) < 0)
@@ -278,8 +278,7 @@ static struct answer invoke(const struct call *call, size_t words, const struct 
     }
 }
 
-/* Lends everything, of which the call takes what it needs. The wheel's padding is noise. The wheel and the last ticket never lie among
- * traps: no count is lent with them that could say that there is nothing. */
+/* Lends everything, of which the call takes what it needs. The wheel's padding is noise. */
 static struct lent lend_all(const struct state *state, size_t length, const struct manner *manner) {
     struct pella_wheel wheel;
     memset(&wheel, (int)below(256), sizeof wheel);
@@ -291,7 +290,9 @@ static struct lent lend_all(const struct state *state, size_t length, const stru
     lent.last_ticket = (uint32_t *)lend(&ticket_room, &state->last_ticket, sizeof(uint32_t), sizeof(uint32_t), manner->layout);
     lent.block = (uint8_t *)lend(&block_room, state->block, length, 1, manner->layout);
     if (manner->trapping) {
-        lent.memory = (uint32_t *)(traps_only + sizeof(uint32_t) * below(PAGE));
+        lent.memory = (uint32_t *)traps_only + below(PAGE);
+        lent.wheel = (struct pella_wheel *)traps_only + below(PAGE / 2);
+        lent.last_ticket = (uint32_t *)traps_only + below(PAGE);
         lent.block = traps_only + below(PAGE);
     }
     if (manner->null && length == 0)
@@ -649,6 +650,8 @@ static void check_desk_handed(const struct answer *answer) {
         return;
     must(request != NULL && request->stage == FINISHED, "hand_back on the desk: the ticket isn't finished");
     must(memchr(statuses, status, sizeof statuses) != NULL, "hand_back on the desk: a status that can't occur");
+    must(answer->member[H_RESIDUAL] == data_length_of(request->block) - request->moved, "hand_back on the desk: the residual is wrong");
+    must(answer->member[H_SCSI_STATUS] == request->scsi_status, "hand_back on the desk: the SCSI status is wrong");
     statuses_seen[status]++;
     request->stage = NONE;
 }
@@ -666,7 +669,7 @@ static void check_desk(const struct call *call, const struct state *before, cons
         if (refusal_of_event(call) == 0)
             must((refused == PELLA_NOT_ACTIVE) == (request == NULL || request->stage != ACTIVE), "report on the desk: 101 is wrong");
         if (refused == 0)
-            request->stage = FINISHED;
+            enter_end(request, call->event, call->scsi_status, call->moved);
         break;
     case ABORT:
         must((refused != 0) == (request == NULL || request->stage == FINISHED), "abort on the desk: 03h is wrong");
@@ -684,7 +687,9 @@ static void check_desk(const struct call *call, const struct state *before, cons
 
 /* Enough words, as many as are needed or more, and what is more is noise or traps; or too few. */
 static struct manner some_manner(bool enough) {
-    struct manner manner = { PELLA_WORDS, (enum layout)below(LAYOUTS), !enough && one_in(2), one_in(2) };
+    struct manner manner = { PELLA_WORDS, (enum layout)below(LAYOUTS), false, false };
+    manner.trapping = !enough && one_in(2);
+    manner.null = one_in(2);
     if (!enough)
         manner.words = one_in(4) ? PELLA_WORDS - 1 : below(PELLA_WORDS);
     else if (one_in(4))
@@ -694,25 +699,26 @@ static struct manner some_manner(bool enough) {
     return manner;
 }
 
-/* Makes the call twice, the second time in another manner and with other numbers where they aren't looked at, and checks it. */
+/* Makes the call twice, once in another manner and with other numbers where they aren't looked at, and checks it. */
 static void try_call(const struct call *call, struct state *state, bool is_desk) {
-    static struct state after, again;
-    struct call second = *call;
+    static struct state after, other_after;
+    struct call variant = *call;
     struct manner manner = some_manner(!one_in(24));
     struct manner other = some_manner(manner.words >= PELLA_WORDS);
     other.layout = (enum layout)((manner.layout + 1 + below(2)) % LAYOUTS);
     if (call->kind == REPORT && call->event != PELLA_COMPLETE) {
-        second.scsi_status = any_number();
-        second.sense = any_number();
+        variant.scsi_status = any_number();
+        variant.sense = any_number();
     }
     memcpy(state->block, call->block, call->length);
 
-    struct answer answer_again = make_call(&second, state, &other, &again);
+    struct answer other_answer = make_call(&variant, state, &other, &other_after);
+    check(&variant, other.words, state, &other_after, &other_answer);
     struct answer answer = make_call(call, state, &manner, &after);
     check(call, manner.words, state, &after, &answer);
-    must(memcmp(&answer, &answer_again, sizeof answer) == 0, "another answer when the same is lent elsewhere");
-    must(same_words(&after, &again) && after.clock == again.clock && after.mark == again.mark && after.last_ticket == again.last_ticket &&
-             memcmp(after.block, again.block, call->length) == 0,
+    must(memcmp(&answer, &other_answer, sizeof answer) == 0, "another answer when the same is lent elsewhere");
+    must(same_words(&after, &other_after) && after.clock == other_after.clock && after.mark == other_after.mark &&
+             after.last_ticket == other_after.last_ticket && memcmp(after.block, other_after.block, call->length) == 0,
          "something else is left when the same is lent elsewhere");
     if (is_desk)
         check_desk(call, state, &answer);
@@ -723,8 +729,10 @@ static void try_call(const struct call *call, struct state *state, bool is_desk)
 /* Makes some of a call's numbers anything. */
 static void spoil(struct call *call) {
     uint32_t *const numbers[] = { &call->ticket, &call->unit, &call->event, &call->scsi_status, &call->sense, &call->moved };
-    *PICK(numbers) = any_number();
-    *PICK(numbers) = any_number();
+    for (int i = 0; i < 2; i++) {
+        uint32_t *number = PICK(numbers);
+        *number = any_number();
+    }
     if ((call->kind == TAKE_IN || call->kind == HAND_BACK) && one_in(4)) {
         call->length = below(BLOCK_MOST + 1);
         noise(call->block, call->length);
@@ -780,8 +788,10 @@ static void make_wild(struct state *wild, const struct state *desk) {
         break;
     default:
         now.memory = "a desk with some words wrong";
-        for (uint32_t left = 1 + below(8); left > 0; left--)
-            wild->words[below(PELLA_WORDS)] = one_in(2) ? below(71) : any_number();
+        for (uint32_t left = 1 + below(8); left > 0; left--) {
+            uint32_t *word = &wild->words[below(PELLA_WORDS)];
+            *word = one_in(2) ? below(71) : any_number();
+        }
         break;
     }
     wild->clock = any_number();
