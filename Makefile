@@ -35,7 +35,7 @@ lib:
 	@rt staticlib pellacrosta
 
 install:
-	@case '$(PREFIX)' in [!/]* | *[!A-Za-z0-9/._+~-]*) echo "install: PREFIX must be a plain absolute path" >&2; exit 1;; esac
+	@case '$(PREFIX)' in '' | [!/]* | *[!A-Za-z0-9/._+~-]*) echo "install: PREFIX must be a plain absolute path" >&2; exit 1;; esac
 	@test -f '$(archive)' || { echo "install: no $(archive); 'make lib' makes it" >&2; exit 1; }
 	@test -x '$(replay)' || { echo "install: no $(replay); 'make run' makes it" >&2; exit 1; }
 	install -D -m 644 '$(archive)' '$(to_archive)'

@@ -54,8 +54,9 @@ static const char *reason(uint32_t refused) {
     case PELLA_NOT_ACTIVE: return "the request is not active";
     case PELLA_IMPLAUSIBLE: return "no adapter can have seen that";
     case PELLA_NO_SUCH_UNIT: return "there is no such unit";
-    case PELLA_NOT_ITS_BLOCK: return "another block was lent";
+    case PELLA_NOT_ITS_BLOCK: return "the block is too short, or another request's";
     case PELLA_TOO_FEW_WORDS: return "the desk's memory is too small";
+    case PELLA_NO_SUCH_STATUS: case PELLA_NO_SUCH_SENSE: return "there is no such SCSI status or sense";
     default: return "for a reason that this driver never meets";
     }
 }
