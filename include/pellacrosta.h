@@ -21,8 +21,13 @@
  * call. (A block of 0 bytes may be a null pointer.)
  *
  * WHAT A CALL NEVER DOES. It doesn't wait, allocate, take a lock, call out or keep a pointer, and it ends after a bounded number of
- * steps: so each may be called from an interrupt, if no other call on the same desk was interrupted by it. It touches no byte outside
- * of what it was lent. Memory that no calls made (noise, say) gets answers that mean nothing, and no harm is done.
+ * steps. It touches no byte outside of what it was lent. Memory that no calls made (noise, say) gets answers that mean nothing, and no
+ * harm is done.
+ *
+ * INTERRUPTS. So each call may be made from an interrupt, if no call on the same desk was interrupted by it. Like other compiled code
+ * for x86-64, the archive's uses xmm registers and the 128 bytes below the stack pointer (the red zone): whatever interrupts a call, a
+ * call or anything else, has to leave these as they were. A hosted system sees to that; in a kernel of your own, give interrupts a
+ * stack of their own and save the xmm registers.
  *
  * REFUSALS. Each call has one number for its refusal, and 0 where there is none: the function's result, or the first member of its
  * record, `refused`. (pella_freeze and pella_release return 0 or 1 where there is none.) With a refusal the other members are 0, and
@@ -60,6 +65,38 @@ struct pella_wheel {
 /* A fresh wheel: clock 0, mark 63. */
 #define PELLA_FRESH_WHEEL { 0, 63 }
 
+/*
+ * ---- the block: Table 20 of the standard, little-endian. Where each field begins, and its bytes if more than one. Other fields aren't
+ * read, reserved ones aren't checked.
+ */
+
+#define PELLA_BLOCK_BYTES 88 /* the least that a block has; private data begins there */
+
+#define PELLA_AT_ADDRESS 0             /* 4: tells live requests apart */
+#define PELLA_AT_LENGTH 4              /* 2: of the block, PELLA_BLOCK_BYTES or more */
+#define PELLA_AT_FUNCTION 6            /* 01h, execute SCSI I/O */
+#define PELLA_AT_STATUS 7              /* written: 00h or the refusal when it is taken in, the status byte when it is handed back */
+#define PELLA_AT_PATH 9                /* 0 */
+#define PELLA_AT_TARGET 10             /* 0 to 6 */
+#define PELLA_AT_LUN 11                /* 0 to 7 */
+#define PELLA_AT_FLAGS 12              /* 4: the flags below, in its first and second byte */
+#define PELLA_AT_CALLBACK 28           /* 4: given by pella_look */
+#define PELLA_AT_DATA_LENGTH 36        /* 4: up to FFFFFFh */
+#define PELLA_AT_SENSE_LENGTH 44       /* how many bytes of sense are asked for */
+#define PELLA_AT_CDB_LENGTH 45         /* 1 to 12 */
+#define PELLA_AT_SCSI_STATUS 52        /* written when it is handed back */
+#define PELLA_AT_AUTOSENSE_RESIDUAL 53 /* written when it is handed back */
+#define PELLA_AT_RESIDUAL 56           /* 4, two's complement: written when it is handed back */
+#define PELLA_AT_CDB 60                /* 12 */
+#define PELLA_AT_TIMEOUT 72            /* 4: seconds; 0 means 30, FFFFFFFFh never */
+
+/* Flags, as a number of 4 bytes at PELLA_AT_FLAGS. */
+#define PELLA_AUTOSENSE_DISABLED 0x0020u
+#define PELLA_CALLBACK_DISABLED 0x0008u
+#define PELLA_TO_THE_HEAD 0x1000u /* SIM Queue Priority */
+/* Refused with 16h: scatter/gather, linked CDB, tag queue action enable, CDB is a pointer. */
+#define PELLA_NOT_PROVIDED 0x0017u
+
 /* ---- the numbers of refusals */
 
 /* Taking in, also written to the block's byte 7 (the names are the standard's). */
@@ -78,7 +115,7 @@ struct pella_wheel {
 #define PELLA_NOT_ITS_BLOCK 105    /* hand back: fewer than 88 bytes lent, or bytes 0 to 3 are not the first request's address */
 /* The library's own. */
 #define PELLA_TOO_FEW_WORDS 201  /* any call: fewer than PELLA_WORDS words lent. Comes before every other, and nothing else is looked at */
-#define PELLA_NO_SUCH_EVENT 202  /* report: the kind is none of those below. 202 to 204 come before 101 and 102 */
+#define PELLA_NO_SUCH_EVENT 202  /* report: the kind is none of those below. 202 to 204 come in this order, before 101 and 102 */
 #define PELLA_NO_SUCH_STATUS 203 /* report: a complete event with a SCSI status above 255 */
 #define PELLA_NO_SUCH_SENSE 204  /* report: a complete event with a sense above PELLA_SENSE_NONE */
 
@@ -114,7 +151,7 @@ struct pella_wheel {
 #define PELLA_OVERRUN 0x12           /* more bytes moved than asked: the residual is below zero */
 /* and PELLA_SELECTION_TIMEOUT, _PARITY, _BUS_FREE, _PHASE, _ADAPTER_ERROR as reported */
 
-/* ---- what the calls give */
+/* ---- what the calls give. Members that don't apply are 0 or false. */
 
 struct pella_taken {
     uint32_t refused;
@@ -157,11 +194,12 @@ struct pella_handed {
 uint32_t pella_fresh(uint32_t *memory, size_t words);
 
 /*
- * Takes a request in: `length` bytes at `block`, laid out as Table 20 of the standard says, little-endian. If it is accepted byte 7
- * becomes 00h, the request has the next ticket, which *last_ticket becomes too, and waits on its unit: last, or first if its SIM Queue
- * Priority flag asks for the head. The desk keeps what it needs of the block and no pointer; lend the same block again to
- * pella_hand_back.
- * Refused: 05h, 06h, 07h, 15h, 16h (also in byte 7, if 8 bytes were lent), 201.
+ * Takes a request in: `length` bytes at `block`. If it is accepted byte 7 becomes 00h, the request has the next ticket, which
+ * *last_ticket becomes too, and waits on its unit: last, or first with PELLA_TO_THE_HEAD. The desk keeps what it needs of the block and
+ * no pointer; lend the same block again to pella_hand_back.
+ * Refused, the first that applies (also in byte 7, if 8 bytes were lent): 201, in no byte. 15h, fewer than 8 bytes. 06h, function. 15h,
+ * length field. 07h, path. 06h, target or LUN. 16h, a flag of PELLA_NOT_PROVIDED. 06h, CDB length. 16h, data length. 06h, a live
+ * request has the same address. 05h, FFFFFFFFh was given. 05h, PELLA_LIVE requests are live.
  */
 struct pella_taken pella_take_in(uint32_t *memory, size_t words, uint8_t *block, size_t length, uint32_t *last_ticket);
 

@@ -39,7 +39,6 @@ static inline void noise(uint8_t *at, size_t bytes) {
 
 /* ---- blocks: numbers in them are little-endian */
 
-#define BLOCK_LEAST 88 /* the shortest block that is accepted */
 #define BLOCK_MOST 300 /* the longest one that is lent here */
 
 static inline void put(uint8_t *at, uint32_t number, int bytes) {
@@ -54,9 +53,9 @@ static inline uint32_t get(const uint8_t *at, int bytes) {
     return number;
 }
 
-static inline uint32_t address_of(const uint8_t *block) { return get(block, 4); }
-static inline uint32_t unit_of(const uint8_t *block) { return PELLA_UNIT(block[10], block[11]); }
-static inline uint32_t data_length_of(const uint8_t *block) { return get(block + 36, 4); }
+static inline uint32_t address_of(const uint8_t *block) { return get(block + PELLA_AT_ADDRESS, 4); }
+static inline uint32_t unit_of(const uint8_t *block) { return PELLA_UNIT(block[PELLA_AT_TARGET], block[PELLA_AT_LUN]); }
+static inline uint32_t data_length_of(const uint8_t *block) { return get(block + PELLA_AT_DATA_LENGTH, 4); }
 
 /* A block that no check refuses: `length` bytes of it are written. */
 static inline void good_block(uint8_t *block, size_t length) {
@@ -65,40 +64,40 @@ static inline void good_block(uint8_t *block, size_t length) {
     static const uint32_t timeouts[] = { 0, 1, 2, 3, 5, 0xFFFFFFFE, 0xFFFFFFFF };
     bool few_units = one_in(2);
     noise(block, length);
-    put(block, 0x1000 + 16 * below(200), 4);
-    put(block + 4, BLOCK_LEAST + below((uint32_t)length - BLOCK_LEAST + 1), 2);
-    block[6] = 0x01;
-    block[9] = 0;
-    block[10] = (uint8_t)below(few_units ? 2 : 7);
-    block[11] = (uint8_t)below(few_units ? 3 : 8);
-    block[12] &= 0xE8; /* the four flags that are refused */
-    put(block + 36, one_in(3) ? below(0x1000000) : PICK(data_lengths), 4);
-    block[44] = one_in(3) ? (uint8_t)chance() : PICK(sense_lengths);
-    block[45] = (uint8_t)(1 + below(12));
-    put(block + 72, PICK(timeouts), 4);
+    put(block + PELLA_AT_ADDRESS, 0x1000 + 16 * below(200), 4);
+    put(block + PELLA_AT_LENGTH, PELLA_BLOCK_BYTES + below((uint32_t)length - PELLA_BLOCK_BYTES + 1), 2);
+    block[PELLA_AT_FUNCTION] = 0x01;
+    block[PELLA_AT_PATH] = 0;
+    block[PELLA_AT_TARGET] = (uint8_t)below(few_units ? 2 : 7);
+    block[PELLA_AT_LUN] = (uint8_t)below(few_units ? 3 : 8);
+    block[PELLA_AT_FLAGS] &= (uint8_t)~PELLA_NOT_PROVIDED;
+    put(block + PELLA_AT_DATA_LENGTH, one_in(3) ? below(0x1000000) : PICK(data_lengths), 4);
+    block[PELLA_AT_SENSE_LENGTH] = one_in(3) ? (uint8_t)chance() : PICK(sense_lengths);
+    block[PELLA_AT_CDB_LENGTH] = (uint8_t)(1 + below(12));
+    put(block + PELLA_AT_TIMEOUT, PICK(timeouts), 4);
 }
 
 /* Makes one field of it wrong, or nearly. */
 static inline void spoil_block(uint8_t *block, size_t *length) {
     static const uint8_t refused_flags[] = { 0x10, 0x04, 0x02, 0x01 };
     switch (below(9)) {
-    case 0: block[6] = (uint8_t)any_number(); break;
-    case 1: put(block + 4, (uint32_t)*length + below(3) - 1, 2); break;
-    case 2: put(block + 4, any_number(), 2); break;
-    case 3: block[9] = (uint8_t)any_number(); break;
-    case 4: block[10] = (uint8_t)(6 + below(3)); break;
-    case 5: block[11] = (uint8_t)(7 + below(3)); break;
-    case 6: block[12] |= PICK(refused_flags); break;
-    case 7: block[45] = (uint8_t)any_number(); break;
-    case 8: put(block + 36, any_number(), 4); break;
+    case 0: block[PELLA_AT_FUNCTION] = (uint8_t)any_number(); break;
+    case 1: put(block + PELLA_AT_LENGTH, (uint32_t)*length + below(3) - 1, 2); break;
+    case 2: put(block + PELLA_AT_LENGTH, any_number(), 2); break;
+    case 3: block[PELLA_AT_PATH] = (uint8_t)any_number(); break;
+    case 4: block[PELLA_AT_TARGET] = (uint8_t)(6 + below(3)); break;
+    case 5: block[PELLA_AT_LUN] = (uint8_t)(7 + below(3)); break;
+    case 6: block[PELLA_AT_FLAGS] |= PICK(refused_flags); break;
+    case 7: block[PELLA_AT_CDB_LENGTH] = (uint8_t)any_number(); break;
+    case 8: put(block + PELLA_AT_DATA_LENGTH, any_number(), 4); break;
     }
     if (one_in(8))
-        *length = below(BLOCK_LEAST + 1);
+        *length = below(PELLA_BLOCK_BYTES + 1);
 }
 
 /* A block of at most so many bytes, as a driver, a careless driver or noise makes it. */
 static inline size_t some_block(uint8_t *block, size_t most) {
-    size_t length = one_in(3) ? BLOCK_LEAST + below((uint32_t)most - BLOCK_LEAST + 1) : BLOCK_LEAST;
+    size_t length = one_in(3) ? PELLA_BLOCK_BYTES + below((uint32_t)most - PELLA_BLOCK_BYTES + 1) : PELLA_BLOCK_BYTES;
     good_block(block, length);
     if (one_in(6))
         spoil_block(block, &length);
@@ -113,17 +112,17 @@ static inline size_t some_block(uint8_t *block, size_t most) {
 static inline uint32_t refusal_of(const uint8_t *block, size_t length) {
     if (length < 8)
         return PELLA_LENGTH_INADEQUATE;
-    if (block[6] != 0x01)
+    if (block[PELLA_AT_FUNCTION] != 0x01)
         return PELLA_INVALID_REQUEST;
-    if (get(block + 4, 2) < BLOCK_LEAST || get(block + 4, 2) > length)
+    if (get(block + PELLA_AT_LENGTH, 2) < PELLA_BLOCK_BYTES || get(block + PELLA_AT_LENGTH, 2) > length)
         return PELLA_LENGTH_INADEQUATE;
-    if (block[9] != 0)
+    if (block[PELLA_AT_PATH] != 0)
         return PELLA_INVALID_PATH;
-    if (block[10] > 6 || block[11] > 7)
+    if (block[PELLA_AT_TARGET] > 6 || block[PELLA_AT_LUN] > 7)
         return PELLA_INVALID_REQUEST;
-    if (block[12] & 0x17)
+    if (block[PELLA_AT_FLAGS] & PELLA_NOT_PROVIDED)
         return PELLA_CANNOT_PROVIDE;
-    if (block[45] == 0 || block[45] > 12)
+    if (block[PELLA_AT_CDB_LENGTH] == 0 || block[PELLA_AT_CDB_LENGTH] > 12)
         return PELLA_INVALID_REQUEST;
     return data_length_of(block) > 0xFFFFFF ? PELLA_CANNOT_PROVIDE : 0;
 }
@@ -135,6 +134,7 @@ enum stage { NONE, WAITING, ACTIVE, FINISHED };
 struct request {
     enum stage stage;
     uint32_t ticket;
+    uint32_t start;              /* the clock when it was sent */
     uint32_t moved, scsi_status; /* as reported; 0 if nothing was */
     size_t length;
     uint8_t block[BLOCK_MOST];
@@ -184,6 +184,12 @@ static inline bool enter(uint32_t ticket, const uint8_t *block, size_t length) {
     request->length = length;
     memcpy(request->block, block, length);
     return true;
+}
+
+/* Enters a request that was sent at this clock. */
+static inline void enter_sent(struct request *request, uint32_t clock) {
+    request->stage = ACTIVE;
+    request->start = clock;
 }
 
 /* Enters an event that was accepted. */
@@ -255,7 +261,7 @@ static inline void some_event(struct call *call) {
     static const uint8_t statuses[] = { 0x00, 0x00, 0x00, 0x02, 0x02, 0x02, 0x04, 0x08, 0x18 };
     const struct request *request = request_of(call->ticket);
     uint32_t asked = request == NULL ? 512 : data_length_of(request->block);
-    uint32_t sense_asked = request == NULL ? 32 : request->block[44];
+    uint32_t sense_asked = request == NULL ? 32 : request->block[PELLA_AT_SENSE_LENGTH];
     call->event = one_in(2) ? PELLA_COMPLETE : PICK(events);
     call->scsi_status = one_in(8) ? below(256) : PICK(statuses);
     call->sense = one_in(3) ? below(258) : (sense_asked + 259 - below(3)) % 258;

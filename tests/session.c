@@ -2,7 +2,7 @@
  * session.c: one fresh desk, calls by chance through pellacrosta.h, and two files: the calls as a log of the replay program
  * (docs/REPLAY.md), and the answers as the replay prints them, made of what the functions returned. A replay of the log that differs
  * from the answers shows that header, archive and replay disagree. What no record shows is checked here: the look, the CDB of a send,
- * and every byte of a block.
+ * the header's flags, and every byte of a block.
  */
 #include "calls.h"
 #include <stdio.h>
@@ -49,6 +49,24 @@ static void take_in(struct call *call) {
         must(enter(taken.ticket, call->block, call->length), "take_in: more than PELLA_LIVE are live");
 }
 
+static bool is_flagged(const struct request *request, uint32_t flag) {
+    return (get(request->block + PELLA_AT_FLAGS, 4) & flag) != 0;
+}
+
+/* Of two requests that wait on one unit, the one that goes first: to the head, the later one; else the earlier one. */
+static bool goes_before(const struct request *one, const struct request *other) {
+    if (is_flagged(one, PELLA_TO_THE_HEAD) != is_flagged(other, PELLA_TO_THE_HEAD))
+        return is_flagged(one, PELLA_TO_THE_HEAD);
+    return is_flagged(one, PELLA_TO_THE_HEAD) ? one->ticket > other->ticket : one->ticket < other->ticket;
+}
+
+static bool is_first_of_its_unit(const struct request *request) {
+    for (int i = 0; i < PELLA_LIVE; i++)
+        if (books[i].stage == WAITING && unit_of(books[i].block) == unit_of(request->block) && goes_before(&books[i], request))
+            return false;
+    return true;
+}
+
 static void send(void) {
     fprintf(log_file, "N\n");
     struct pella_sent sent = pella_send(memory, PELLA_WORDS, &wheel);
@@ -59,9 +77,10 @@ static void send(void) {
     fprintf(answers, "N\t%u\t%u\t%u\n", sent.ticket, sent.unit, sent.looked);
     struct request *request = request_of(sent.ticket);
     must(request != NULL && request->stage == WAITING, "send: the ticket doesn't wait");
-    must(memcmp(sent.cdb, request->block + 60, sizeof sent.cdb) == 0, "send: the CDB is not the block's");
-    must(sent.unit == wheel.mark, "send: the mark is not the unit");
-    request->stage = ACTIVE;
+    must(memcmp(sent.cdb, request->block + PELLA_AT_CDB, sizeof sent.cdb) == 0, "send: the CDB is not the block's");
+    must(sent.unit == unit_of(request->block) && sent.unit == wheel.mark, "send: the unit is not the block's, or not the mark");
+    must(is_first_of_its_unit(request), "send: another request of the unit goes before it");
+    enter_sent(request, wheel.clock);
 }
 
 static void report(const struct call *call) {
@@ -93,9 +112,22 @@ static void abort_one(const struct call *call) {
         request->stage = FINISHED;
 }
 
+/* What a block is told, against those of its fields that no record of the log has by name. */
+static void compare_fields(const struct request *request, const struct pella_handed *handed) {
+    uint32_t base = handed->status & PELLA_STATUS_BASE, asked = request->block[PELLA_AT_SENSE_LENGTH];
+    uint32_t timeout = get(request->block + PELLA_AT_TIMEOUT, 4);
+    if (is_flagged(request, PELLA_AUTOSENSE_DISABLED))
+        must(!(handed->status & PELLA_STATUS_SENSED) && handed->autosense_residual == 0 && base != PELLA_SENSE_UNREAD,
+             "hand_back: sense was looked at, though the block disables it");
+    if (base == PELLA_SENSE_UNREAD)
+        must(handed->autosense_residual == asked, "hand_back: no sense came, and its residual is not the block's sense length");
+    if (base == PELLA_TIMED_OUT)
+        must(wheel.clock - request->start > (timeout == 0 ? 30 : timeout), "hand_back: timed out before the block's timeout");
+}
+
 /* The look has no record: it must announce what the hand-back gives. */
 static void hand_back(void) {
-    uint8_t spare[BLOCK_LEAST] = { 0 };
+    uint8_t spare[PELLA_BLOCK_BYTES] = { 0 };
     fprintf(log_file, "H\n");
     struct pella_first first = pella_look(memory, PELLA_WORDS);
     if (!first.found) {
@@ -108,8 +140,8 @@ static void hand_back(void) {
     must(request != NULL && request->stage == FINISHED, "look: the ticket isn't finished");
     uint8_t *block = request->block;
     must(first.address == address_of(block), "look: the address is not the block's");
-    must(first.callback == get(block + 28, 4), "look: the callback is not the block's");
-    must(first.wanted == ((block[12] & 0x08) == 0), "look: the callback is wanted, but the block disables it, or not, but it doesn't");
+    must(first.callback == get(block + PELLA_AT_CALLBACK, 4), "look: the callback is not the block's");
+    must(first.wanted != is_flagged(request, PELLA_CALLBACK_DISABLED), "look: wanted is not what the block's flag says");
 
     uint8_t told[BLOCK_MOST];
     memcpy(told, block, request->length);
@@ -118,10 +150,11 @@ static void hand_back(void) {
     must(handed.ticket == first.ticket, "hand_back: another ticket than the look's");
     fprintf(answers, "H\t%u\t%02X\t%02X\t%u\t%d\n", handed.ticket, handed.status, handed.scsi_status, handed.autosense_residual,
             handed.residual);
-    told[7] = handed.status;
-    told[52] = handed.scsi_status;
-    told[53] = handed.autosense_residual;
-    put(told + 56, (uint32_t)handed.residual, 4);
+    compare_fields(request, &handed);
+    told[PELLA_AT_STATUS] = handed.status;
+    told[PELLA_AT_SCSI_STATUS] = handed.scsi_status;
+    told[PELLA_AT_AUTOSENSE_RESIDUAL] = handed.autosense_residual;
+    put(told + PELLA_AT_RESIDUAL, (uint32_t)handed.residual, 4);
     must(memcmp(told, block, request->length) == 0, "hand_back: the block's bytes are not what was answered");
     request->stage = NONE;
 }

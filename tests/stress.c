@@ -546,7 +546,7 @@ static void check_handed(const struct call *call, const struct state *before, co
     uint32_t refused = answer->member[REFUSED];
     if (!first.found)
         must(refused == PELLA_NONE_FINISHED, "hand_back: not 104, and the look finds nothing");
-    else if (call->length < BLOCK_LEAST || address_of(call->block) != first.address)
+    else if (call->length < PELLA_BLOCK_BYTES || address_of(call->block) != first.address)
         must(refused == PELLA_NOT_ITS_BLOCK, "hand_back: not 105, and the block is too short or another one");
     else
         must(refused == 0 && answer->member[TICKET] == first.ticket, "hand_back: refused, or not the ticket that the look finds");
@@ -558,12 +558,12 @@ static void check_block(const struct call *call, const struct state *after, cons
     uint8_t block[BLOCK_MOST];
     memcpy(block, call->block, call->length);
     if (call->kind == TAKE_IN && call->length >= 8 && member[REFUSED] != PELLA_TOO_FEW_WORDS)
-        block[7] = (uint8_t)member[REFUSED];
+        block[PELLA_AT_STATUS] = (uint8_t)member[REFUSED];
     if (call->kind == HAND_BACK && member[REFUSED] == 0) {
-        block[7] = (uint8_t)member[H_STATUS];
-        block[52] = (uint8_t)member[H_SCSI_STATUS];
-        block[53] = (uint8_t)member[H_AUTOSENSE];
-        put(block + 56, member[H_RESIDUAL], 4);
+        block[PELLA_AT_STATUS] = (uint8_t)member[H_STATUS];
+        block[PELLA_AT_SCSI_STATUS] = (uint8_t)member[H_SCSI_STATUS];
+        block[PELLA_AT_AUTOSENSE_RESIDUAL] = (uint8_t)member[H_AUTOSENSE];
+        put(block + PELLA_AT_RESIDUAL, member[H_RESIDUAL], 4);
     }
     must(memcmp(block, after->block, call->length) == 0, "the block's bytes are not as they should be");
 }
@@ -626,8 +626,8 @@ static void check_desk_sent(const struct state *before, const struct answer *ans
     must(member[S_UNIT] == unit_of(request->block), "send on the desk: another unit than the block's");
     must(member[S_UNIT] == (before->mark + member[S_LOOKED]) % PELLA_UNITS, "send on the desk: looked at is wrong");
     for (int i = 0; i < 12; i++)
-        must(member[S_CDB + i] == request->block[60 + i], "send on the desk: the CDB is not the block's");
-    request->stage = ACTIVE;
+        must(member[S_CDB + i] == request->block[PELLA_AT_CDB + i], "send on the desk: the CDB is not the block's");
+    enter_sent(request, before->clock);
 }
 
 static void check_desk_found(const struct answer *answer) {
@@ -637,8 +637,8 @@ static void check_desk_found(const struct answer *answer) {
     if (!member[F_FOUND])
         return;
     must(request != NULL && request->stage == FINISHED, "look on the desk: the ticket isn't finished");
-    must(member[F_ADDRESS] == address_of(request->block) && member[F_CALLBACK] == get(request->block + 28, 4) &&
-             member[F_WANTED] == ((request->block[12] & 0x08) == 0),
+    must(member[F_ADDRESS] == address_of(request->block) && member[F_CALLBACK] == get(request->block + PELLA_AT_CALLBACK, 4) &&
+             member[F_WANTED] == ((request->block[PELLA_AT_FLAGS] & PELLA_CALLBACK_DISABLED) == 0),
          "look on the desk: address, callback or wanted are not the block's");
 }
 
@@ -743,9 +743,9 @@ static void spoil(struct call *call) {
 static void find_block(struct call *call, const struct state *state) {
     struct pella_first first = pella_look(state->words, PELLA_WORDS);
     const struct request *request = first.found && !one_in(8) ? request_of(first.ticket) : some_request((enum stage)below(4));
-    if (request == NULL || request->length < BLOCK_LEAST)
+    if (request == NULL || request->length < PELLA_BLOCK_BYTES)
         return;
-    call->length = one_in(16) ? below(BLOCK_LEAST + 1) : request->length;
+    call->length = one_in(16) ? below(PELLA_BLOCK_BYTES + 1) : request->length;
     memcpy(call->block, request->block, call->length);
 }
 

@@ -10,7 +10,6 @@
 #include <stdlib.h>
 #include <string.h>
 
-#define BLOCK_BYTES 88
 #define SENSE_BYTES 32
 #define CHECK_CONDITION 0x02
 
@@ -33,7 +32,7 @@ struct job {
     /* Told by the desk. */
     uint32_t ticket;
     bool active;
-    uint8_t block[BLOCK_BYTES];
+    uint8_t block[PELLA_BLOCK_BYTES];
 };
 
 static struct job jobs[] = {
@@ -78,19 +77,19 @@ static void put(uint8_t *at, uint32_t number, int bytes) {
 /* Fills a job's block. The address only tells live requests apart: here it is the job's place in the table. */
 static void fill_block(struct job *job, uint32_t address) {
     uint8_t *block = job->block;
-    memset(block, 0, BLOCK_BYTES);
-    put(block, address, 4);
-    put(block + 4, BLOCK_BYTES, 2);
-    block[6] = 0x01; /* function: execute SCSI I/O */
-    block[10] = job->target;
-    block[11] = job->lun;
-    block[12] = 0x40; /* data comes in. The desk doesn't read it, the adapter's side does */
-    put(block + 36, job->asked, 4);
-    block[44] = SENSE_BYTES;
-    block[45] = 6;                            /* the CDB's length */
-    block[60] = 0x08;                         /* the CDB: READ(6), */
-    block[64] = (uint8_t)(job->asked / 512); /* so many sectors */
-    put(block + 72, 30, 4);                   /* timeout in seconds */
+    memset(block, 0, PELLA_BLOCK_BYTES);
+    put(block + PELLA_AT_ADDRESS, address, 4);
+    put(block + PELLA_AT_LENGTH, PELLA_BLOCK_BYTES, 2);
+    block[PELLA_AT_FUNCTION] = 0x01; /* execute SCSI I/O */
+    block[PELLA_AT_TARGET] = job->target;
+    block[PELLA_AT_LUN] = job->lun;
+    put(block + PELLA_AT_FLAGS, 0x40, 4); /* data comes in. The desk doesn't read it, the adapter's side does */
+    put(block + PELLA_AT_DATA_LENGTH, job->asked, 4);
+    block[PELLA_AT_SENSE_LENGTH] = SENSE_BYTES;
+    block[PELLA_AT_CDB_LENGTH] = 6;
+    block[PELLA_AT_CDB] = 0x08;                             /* READ(6), */
+    block[PELLA_AT_CDB + 4] = (uint8_t)(job->asked / 512); /* so many sectors */
+    put(block + PELLA_AT_TIMEOUT, 30, 4);
 }
 
 static struct job *job_of(uint32_t ticket) {
@@ -104,7 +103,7 @@ static struct job *job_of(uint32_t ticket) {
 static void take_in(struct desk *desk, uint32_t address) {
     struct job *job = &jobs[address];
     fill_block(job, address);
-    struct pella_taken taken = pella_take_in(desk->memory, PELLA_WORDS, job->block, BLOCK_BYTES, &desk->last_ticket);
+    struct pella_taken taken = pella_take_in(desk->memory, PELLA_WORDS, job->block, PELLA_BLOCK_BYTES, &desk->last_ticket);
     stop_if(taken.refused, "taking a read in");
     job->ticket = taken.ticket;
     printf("ticket %u: a read of %u bytes from unit %u waits\n", job->ticket, job->asked, PELLA_UNIT(job->target, job->lun));
@@ -168,15 +167,15 @@ static void release(struct desk *desk, uint32_t unit) {
     printf("unit %u is released\n", unit);
 }
 
-/* Hands back all that is finished. The look says whose block the desk wants to be lent. */
+/* Hands back all that is finished. The look says whose block the desk is to be lent. */
 static void hand_back_all(struct desk *desk) {
     for (;;) {
         struct pella_first first = pella_look(desk->memory, PELLA_WORDS);
         stop_if(first.refused, "a look");
         if (!first.found)
             return;
-        struct job *job = &jobs[first.address];
-        struct pella_handed handed = pella_hand_back(desk->memory, PELLA_WORDS, job->block, BLOCK_BYTES);
+        struct job *job = job_of(first.ticket);
+        struct pella_handed handed = pella_hand_back(desk->memory, PELLA_WORDS, job->block, PELLA_BLOCK_BYTES);
         stop_if(handed.refused, "a hand-back");
         tell(job, &handed);
         if (handed.status & PELLA_STATUS_FROZEN)
