@@ -57,7 +57,7 @@ pub struct First {
     pub wanted: bool,
 }
 
-// Hand back: the ticket, and what the block was told.
+// Hand back: the ticket, and what the block was told. (For C, `scsi` is scsi_status and `unsensed` autosense_residual.)
 #[repr(C)]
 pub struct Handed {
     pub refused: u32,
@@ -119,6 +119,16 @@ fn event_meant(kind: u32, scsi: u32, sense: u32) -> Meant
         Coded::Names(what) => Meant::Event(what),
         Coded::Nothing => Meant::Unclear(202),
     }
+}
+
+// The unit of a number. One above 255 is no unit, as 255 is none.
+fn unit_meant(number: u32) -> Unit
+    ensures { λ r. ⌜ r ≡ unit-meant number ⌝ }
+{
+    if 255 < number {
+        return Unit(255);
+    }
+    Unit(number as u8)
 }
 
 // ---- what an answer is in C
@@ -382,16 +392,6 @@ pub extern "C" fn pella_abort(mem: &mut [u32; WORDS], words: usize, ticket: u32)
         return 201;
     }
     as_aborted(desk::abort(mem, Ticket(ticket)))
-}
-
-// The unit of a number. One above 255 is no unit, as 255 is none.
-fn unit_meant(number: u32) -> Unit
-    ensures { λ r. ⌜ r ≡ unit-meant number ⌝ }
-{
-    if 255 < number {
-        return Unit(255);
-    }
-    Unit(number as u8)
 }
 
 // Freeze a unit.
