@@ -1,6 +1,7 @@
 # make run        prove every crate, keeping what has not changed since the last run, and replay the sample log
 # make test       the gate: prove every crate from nothing, try the must-fail edits, run the programs, compare with the second program
-# make bench      the proved replay and the second program on 2,000,000 lines (after make run or make test)
+# make bench      the proved replay and the second program on 2,000,000 lines, then the library's calls and the second program's (after
+#                 make run and make lib, or make test)
 # make lib        prove the library for C and make its archive, target/staticlib/libpellacrosta.a
 # make install    archive, header, pkg-config file and replay program to PREFIX (after make lib and make run; it only copies)
 # make uninstall  takes away what make install put there
@@ -30,6 +31,7 @@ test:
 
 bench:
 	@bench/run
+	@cargo run --quiet --release --offline --locked --manifest-path bench/calls/Cargo.toml --target-dir target/calls
 
 lib:
 	@rt staticlib pellacrosta

@@ -70,7 +70,7 @@ static inline void good_block(uint8_t *block, size_t length) {
     block[PELLA_AT_PATH] = 0;
     block[PELLA_AT_TARGET] = (uint8_t)below(few_units ? 2 : 7);
     block[PELLA_AT_LUN] = (uint8_t)below(few_units ? 3 : 8);
-    block[PELLA_AT_FLAGS] &= (uint8_t)~PELLA_NOT_PROVIDED;
+    block[PELLA_AT_FLAGS] &= (uint8_t)~PELLA_FLAGS_REFUSED;
     put(block + PELLA_AT_DATA_LENGTH, one_in(3) ? below(0x1000000) : PICK(data_lengths), 4);
     block[PELLA_AT_SENSE_LENGTH] = one_in(3) ? (uint8_t)chance() : PICK(sense_lengths);
     block[PELLA_AT_CDB_LENGTH] = (uint8_t)(1 + below(12));
@@ -111,20 +111,20 @@ static inline size_t some_block(uint8_t *block, size_t most) {
 /* What a block is refused for by itself, whatever the desk holds: docs/REPLAY.md has the order. 0 if for nothing. */
 static inline uint32_t refusal_of(const uint8_t *block, size_t length) {
     if (length < 8)
-        return PELLA_LENGTH_INADEQUATE;
+        return PELLA_REFUSED_LENGTH_INADEQUATE;
     if (block[PELLA_AT_FUNCTION] != 0x01)
-        return PELLA_INVALID_REQUEST;
+        return PELLA_REFUSED_INVALID_REQUEST;
     if (get(block + PELLA_AT_LENGTH, 2) < PELLA_BLOCK_BYTES || get(block + PELLA_AT_LENGTH, 2) > length)
-        return PELLA_LENGTH_INADEQUATE;
+        return PELLA_REFUSED_LENGTH_INADEQUATE;
     if (block[PELLA_AT_PATH] != 0)
-        return PELLA_INVALID_PATH;
+        return PELLA_REFUSED_INVALID_PATH;
     if (block[PELLA_AT_TARGET] > 6 || block[PELLA_AT_LUN] > 7)
-        return PELLA_INVALID_REQUEST;
-    if (block[PELLA_AT_FLAGS] & PELLA_NOT_PROVIDED)
-        return PELLA_CANNOT_PROVIDE;
+        return PELLA_REFUSED_INVALID_REQUEST;
+    if (block[PELLA_AT_FLAGS] & PELLA_FLAGS_REFUSED)
+        return PELLA_REFUSED_CANNOT_PROVIDE;
     if (block[PELLA_AT_CDB_LENGTH] == 0 || block[PELLA_AT_CDB_LENGTH] > 12)
-        return PELLA_INVALID_REQUEST;
-    return data_length_of(block) > 0xFFFFFF ? PELLA_CANNOT_PROVIDE : 0;
+        return PELLA_REFUSED_INVALID_REQUEST;
+    return data_length_of(block) > 0xFFFFFF ? PELLA_REFUSED_CANNOT_PROVIDE : 0;
 }
 
 /* ---- the books: each live request with its block, as the desk's answers tell */
@@ -140,17 +140,17 @@ struct request {
     uint8_t block[BLOCK_MOST];
 };
 
-static struct request books[PELLA_LIVE];
+static struct request books[PELLA_MOST_LIVE];
 
 static inline struct request *request_of(uint32_t ticket) {
-    for (int i = 0; i < PELLA_LIVE; i++)
+    for (int i = 0; i < PELLA_MOST_LIVE; i++)
         if (books[i].stage != NONE && books[i].ticket == ticket)
             return &books[i];
     return NULL;
 }
 
 static inline bool address_is_live(uint32_t address) {
-    for (int i = 0; i < PELLA_LIVE; i++)
+    for (int i = 0; i < PELLA_MOST_LIVE; i++)
         if (books[i].stage != NONE && address_of(books[i].block) == address)
             return true;
     return false;
@@ -158,17 +158,17 @@ static inline bool address_is_live(uint32_t address) {
 
 static inline int how_many(enum stage stage) {
     int count = 0;
-    for (int i = 0; i < PELLA_LIVE; i++)
+    for (int i = 0; i < PELLA_MOST_LIVE; i++)
         count += books[i].stage == stage;
     return count;
 }
 
 /* One that is in this stage, by chance; null if none is. */
 static inline struct request *some_request(enum stage stage) {
-    uint32_t from = below(PELLA_LIVE);
-    for (uint32_t i = 0; i < PELLA_LIVE; i++)
-        if (books[(from + i) % PELLA_LIVE].stage == stage)
-            return &books[(from + i) % PELLA_LIVE];
+    uint32_t from = below(PELLA_MOST_LIVE);
+    for (uint32_t i = 0; i < PELLA_MOST_LIVE; i++)
+        if (books[(from + i) % PELLA_MOST_LIVE].stage == stage)
+            return &books[(from + i) % PELLA_MOST_LIVE];
     return NULL;
 }
 
@@ -196,11 +196,11 @@ static inline void enter_sent(struct request *request, uint32_t clock) {
 static inline void enter_end(struct request *request, uint32_t event, uint32_t scsi_status, uint32_t moved) {
     request->stage = FINISHED;
     request->moved = moved;
-    request->scsi_status = event == PELLA_COMPLETE ? scsi_status : 0;
+    request->scsi_status = event == PELLA_EVENT_COMPLETE ? scsi_status : 0;
 }
 
 static inline void enter_reset(void) {
-    for (int i = 0; i < PELLA_LIVE; i++)
+    for (int i = 0; i < PELLA_MOST_LIVE; i++)
         if (books[i].stage == ACTIVE)
             books[i].stage = FINISHED;
 }
@@ -256,13 +256,13 @@ static inline uint32_t some_unit(void) {
 
 /* An event on a ticket: numbers around those that its block has. */
 static inline void some_event(struct call *call) {
-    static const uint8_t events[] = { PELLA_ABORT_DONE, PELLA_SELECTION_TIMEOUT, PELLA_PARITY,
-                                      PELLA_BUS_FREE,   PELLA_PHASE,             PELLA_ADAPTER_ERROR };
+    static const uint8_t events[] = { PELLA_EVENT_ABORT_DONE, PELLA_EVENT_SELECTION_TIMEOUT, PELLA_EVENT_PARITY,
+                                      PELLA_EVENT_BUS_FREE,   PELLA_EVENT_PHASE,             PELLA_EVENT_ADAPTER_ERROR };
     static const uint8_t statuses[] = { 0x00, 0x00, 0x00, 0x02, 0x02, 0x02, 0x04, 0x08, 0x18 };
     const struct request *request = request_of(call->ticket);
     uint32_t asked = request == NULL ? 512 : data_length_of(request->block);
     uint32_t sense_asked = request == NULL ? 32 : request->block[PELLA_AT_SENSE_LENGTH];
-    call->event = one_in(2) ? PELLA_COMPLETE : PICK(events);
+    call->event = one_in(2) ? PELLA_EVENT_COMPLETE : PICK(events);
     call->scsi_status = one_in(8) ? below(256) : PICK(statuses);
     call->sense = one_in(3) ? below(258) : (sense_asked + 259 - below(3)) % 258;
     if (one_in(4))

@@ -46,7 +46,7 @@ static void take_in(struct call *call) {
         before[7] = (uint8_t)taken.refused;
     must(memcmp(before, call->block, call->length) == 0, "take_in: another byte than byte 7 was written, or another number");
     if (taken.refused == 0)
-        must(enter(taken.ticket, call->block, call->length), "take_in: more than PELLA_LIVE are live");
+        must(enter(taken.ticket, call->block, call->length), "take_in: more than PELLA_MOST_LIVE are live");
 }
 
 static bool is_flagged(const struct request *request, uint32_t flag) {
@@ -55,13 +55,13 @@ static bool is_flagged(const struct request *request, uint32_t flag) {
 
 /* Of two requests that wait on one unit, the one that goes first: to the head, the later one; else the earlier one. */
 static bool goes_before(const struct request *one, const struct request *other) {
-    if (is_flagged(one, PELLA_TO_THE_HEAD) != is_flagged(other, PELLA_TO_THE_HEAD))
-        return is_flagged(one, PELLA_TO_THE_HEAD);
-    return is_flagged(one, PELLA_TO_THE_HEAD) ? one->ticket > other->ticket : one->ticket < other->ticket;
+    if (is_flagged(one, PELLA_FLAG_TO_THE_HEAD) != is_flagged(other, PELLA_FLAG_TO_THE_HEAD))
+        return is_flagged(one, PELLA_FLAG_TO_THE_HEAD);
+    return is_flagged(one, PELLA_FLAG_TO_THE_HEAD) ? one->ticket > other->ticket : one->ticket < other->ticket;
 }
 
 static bool is_first_of_its_unit(const struct request *request) {
-    for (int i = 0; i < PELLA_LIVE; i++)
+    for (int i = 0; i < PELLA_MOST_LIVE; i++)
         if (books[i].stage == WAITING && unit_of(books[i].block) == unit_of(request->block) && goes_before(&books[i], request))
             return false;
     return true;
@@ -85,13 +85,13 @@ static void send(void) {
 
 static void report(const struct call *call) {
     switch (call->event) {
-    case PELLA_COMPLETE: fprintf(log_file, "E\t%u\tC\t%u\t%02X\t", call->ticket, call->moved, call->scsi_status); break;
-    case PELLA_ABORT_DONE: fprintf(log_file, "E\t%u\tK\t%u\n", call->ticket, call->moved); break;
+    case PELLA_EVENT_COMPLETE: fprintf(log_file, "E\t%u\tC\t%u\t%02X\t", call->ticket, call->moved, call->scsi_status); break;
+    case PELLA_EVENT_ABORT_DONE: fprintf(log_file, "E\t%u\tK\t%u\n", call->ticket, call->moved); break;
     default: fprintf(log_file, "E\t%u\t%02X\t%u\n", call->ticket, call->event, call->moved); break;
     }
-    if (call->event == PELLA_COMPLETE && call->sense < PELLA_SENSE_FAILED)
+    if (call->event == PELLA_EVENT_COMPLETE && call->sense < PELLA_SENSE_FAILED)
         fprintf(log_file, "%u\n", call->sense);
-    else if (call->event == PELLA_COMPLETE)
+    else if (call->event == PELLA_EVENT_COMPLETE)
         fprintf(log_file, call->sense == PELLA_SENSE_FAILED ? "X\n" : "-\n");
 
     uint32_t refused = pella_report(memory, PELLA_WORDS, call->ticket, call->event, call->scsi_status, call->sense, call->moved);
@@ -116,12 +116,12 @@ static void abort_one(const struct call *call) {
 static void compare_fields(const struct request *request, const struct pella_handed *handed) {
     uint32_t base = handed->status & PELLA_STATUS_BASE, asked = request->block[PELLA_AT_SENSE_LENGTH];
     uint32_t timeout = get(request->block + PELLA_AT_TIMEOUT, 4);
-    if (is_flagged(request, PELLA_AUTOSENSE_DISABLED))
-        must(!(handed->status & PELLA_STATUS_SENSED) && handed->autosense_residual == 0 && base != PELLA_SENSE_UNREAD,
+    if (is_flagged(request, PELLA_FLAG_AUTOSENSE_DISABLED))
+        must(!(handed->status & PELLA_STATUS_SENSED) && handed->autosense_residual == 0 && base != PELLA_STATUS_SENSE_UNREAD,
              "hand_back: sense was looked at, though the block disables it");
-    if (base == PELLA_SENSE_UNREAD)
+    if (base == PELLA_STATUS_SENSE_UNREAD)
         must(handed->autosense_residual == asked, "hand_back: no sense came, and its residual is not the block's sense length");
-    if (base == PELLA_TIMED_OUT)
+    if (base == PELLA_STATUS_TIMED_OUT)
         must(wheel.clock - request->start > (timeout == 0 ? 30 : timeout), "hand_back: timed out before the block's timeout");
 }
 
@@ -141,7 +141,7 @@ static void hand_back(void) {
     uint8_t *block = request->block;
     must(first.address == address_of(block), "look: the address is not the block's");
     must(first.callback == get(block + PELLA_AT_CALLBACK, 4), "look: the callback is not the block's");
-    must(first.wanted != is_flagged(request, PELLA_CALLBACK_DISABLED), "look: wanted is not what the block's flag says");
+    must(first.wanted != is_flagged(request, PELLA_FLAG_CALLBACK_DISABLED), "look: wanted is not what the block's flag says");
 
     uint8_t told[BLOCK_MOST];
     memcpy(told, block, request->length);

@@ -362,10 +362,10 @@ static const char *const sight_names[SIGHTS] = {
     [HANDED_WHOLE] = "a hand-back with residual 0",
     [HANDED_OVER] = "a hand-back with bytes too many",
 };
-static const uint8_t refusals[] = { PELLA_UNABLE_TO_ABORT, PELLA_CAM_BUSY, PELLA_INVALID_REQUEST, PELLA_INVALID_PATH,
-                                    PELLA_LENGTH_INADEQUATE, PELLA_CANNOT_PROVIDE, PELLA_NOT_ACTIVE, PELLA_IMPLAUSIBLE,
-                                    PELLA_NO_SUCH_UNIT, PELLA_NONE_FINISHED, PELLA_NOT_ITS_BLOCK, PELLA_TOO_FEW_WORDS,
-                                    PELLA_NO_SUCH_EVENT, PELLA_NO_SUCH_STATUS, PELLA_NO_SUCH_SENSE };
+static const uint8_t refusals[] = { PELLA_REFUSED_UNABLE_TO_ABORT, PELLA_REFUSED_CAM_BUSY, PELLA_REFUSED_INVALID_REQUEST, PELLA_REFUSED_INVALID_PATH,
+                                    PELLA_REFUSED_LENGTH_INADEQUATE, PELLA_REFUSED_CANNOT_PROVIDE, PELLA_REFUSED_NOT_ACTIVE, PELLA_REFUSED_IMPLAUSIBLE,
+                                    PELLA_REFUSED_NO_SUCH_UNIT, PELLA_REFUSED_NONE_FINISHED, PELLA_REFUSED_NOT_ITS_BLOCK, PELLA_REFUSED_TOO_FEW_WORDS,
+                                    PELLA_REFUSED_NO_SUCH_EVENT, PELLA_REFUSED_NO_SUCH_STATUS, PELLA_REFUSED_NO_SUCH_SENSE };
 /* The status bytes that can occur on a desk, and no others: docs/REPLAY.md. */
 static const uint8_t statuses[] = { 0x01, 0x41, 0x02, 0x42, 0x44, 0xC4, 0x4A, 0x4B, 0xCB, 0x4E, 0x4F, 0x50, 0x52, 0xD2, 0x53, 0x54, 0x59 };
 
@@ -447,15 +447,15 @@ static void summary(void) {
 /* The numbers that a report is refused for whatever the memory holds. */
 static uint32_t refusal_of_event(const struct call *call) {
     switch (call->event) {
-    case PELLA_COMPLETE:
-        return call->scsi_status > 255 ? PELLA_NO_SUCH_STATUS : call->sense > PELLA_SENSE_NONE ? PELLA_NO_SUCH_SENSE : 0;
-    case PELLA_ABORT_DONE:
-    case PELLA_SELECTION_TIMEOUT:
-    case PELLA_PARITY:
-    case PELLA_BUS_FREE:
-    case PELLA_PHASE:
-    case PELLA_ADAPTER_ERROR: return 0;
-    default: return PELLA_NO_SUCH_EVENT;
+    case PELLA_EVENT_COMPLETE:
+        return call->scsi_status > 255 ? PELLA_REFUSED_NO_SUCH_STATUS : call->sense > PELLA_SENSE_NONE ? PELLA_REFUSED_NO_SUCH_SENSE : 0;
+    case PELLA_EVENT_ABORT_DONE:
+    case PELLA_EVENT_SELECTION_TIMEOUT:
+    case PELLA_EVENT_PARITY:
+    case PELLA_EVENT_BUS_FREE:
+    case PELLA_EVENT_PHASE:
+    case PELLA_EVENT_ADAPTER_ERROR: return 0;
+    default: return PELLA_REFUSED_NO_SUCH_EVENT;
     }
 }
 
@@ -486,7 +486,7 @@ static void check_taken(const struct call *call, const struct state *before, con
     if (own != 0)
         must(refused == own, "take_in: another number than the block's fields call for");
     else
-        must(refused == 0 || refused == PELLA_CAM_BUSY || refused == PELLA_INVALID_REQUEST, "take_in: refused a good block");
+        must(refused == 0 || refused == PELLA_REFUSED_CAM_BUSY || refused == PELLA_REFUSED_INVALID_REQUEST, "take_in: refused a good block");
     if (refused != 0)
         return;
     must(before->last_ticket != UINT32_MAX, "take_in: accepted after the last ticket");
@@ -514,9 +514,9 @@ static void check_reported(const struct call *call, const struct answer *answer)
     if (own != 0)
         must(refused == own, "report: 202 to 204 not as the numbers call for");
     else if (call->moved > 0x7FFFFFFF)
-        must(refused == PELLA_NOT_ACTIVE || refused == PELLA_IMPLAUSIBLE, "report: neither 101 nor 102, and too many bytes moved");
+        must(refused == PELLA_REFUSED_NOT_ACTIVE || refused == PELLA_REFUSED_IMPLAUSIBLE, "report: neither 101 nor 102, and too many bytes moved");
     else
-        must(refused == 0 || refused == PELLA_NOT_ACTIVE || refused == PELLA_IMPLAUSIBLE, "report: an answer that it hasn't");
+        must(refused == 0 || refused == PELLA_REFUSED_NOT_ACTIVE || refused == PELLA_REFUSED_IMPLAUSIBLE, "report: an answer that it hasn't");
 }
 
 /* Freezes or releases a unit in a copy of the words: 1 if it was frozen before. */
@@ -530,7 +530,7 @@ static bool was_frozen(enum kind kind, uint32_t *words, uint32_t unit) {
 static void check_frozen(const struct call *call, const struct state *after, const struct answer *answer) {
     static uint32_t words[PELLA_WORDS];
     bool frozen = call->kind == FREEZE;
-    must((answer->member[0] == PELLA_NO_SUCH_UNIT) == (call->unit >= PELLA_UNITS), "103 and the unit disagree");
+    must((answer->member[0] == PELLA_REFUSED_NO_SUCH_UNIT) == (call->unit >= PELLA_UNITS), "103 and the unit disagree");
     if (call->unit >= PELLA_UNITS)
         return;
     must(answer->member[0] <= 1, "freeze or release: an answer that it hasn't");
@@ -545,9 +545,9 @@ static void check_handed(const struct call *call, const struct state *before, co
     struct pella_first first = pella_look(before->words, PELLA_WORDS);
     uint32_t refused = answer->member[REFUSED];
     if (!first.found)
-        must(refused == PELLA_NONE_FINISHED, "hand_back: not 104, and the look finds nothing");
+        must(refused == PELLA_REFUSED_NONE_FINISHED, "hand_back: not 104, and the look finds nothing");
     else if (call->length < PELLA_BLOCK_BYTES || address_of(call->block) != first.address)
-        must(refused == PELLA_NOT_ITS_BLOCK, "hand_back: not 105, and the block is too short or another one");
+        must(refused == PELLA_REFUSED_NOT_ITS_BLOCK, "hand_back: not 105, and the block is too short or another one");
     else
         must(refused == 0 && answer->member[TICKET] == first.ticket, "hand_back: refused, or not the ticket that the look finds");
 }
@@ -557,7 +557,7 @@ static void check_block(const struct call *call, const struct state *after, cons
     const uint32_t *member = answer->member;
     uint8_t block[BLOCK_MOST];
     memcpy(block, call->block, call->length);
-    if (call->kind == TAKE_IN && call->length >= 8 && member[REFUSED] != PELLA_TOO_FEW_WORDS)
+    if (call->kind == TAKE_IN && call->length >= 8 && member[REFUSED] != PELLA_REFUSED_TOO_FEW_WORDS)
         block[PELLA_AT_STATUS] = (uint8_t)member[REFUSED];
     if (call->kind == HAND_BACK && member[REFUSED] == 0) {
         block[PELLA_AT_STATUS] = (uint8_t)member[H_STATUS];
@@ -571,11 +571,11 @@ static void check_block(const struct call *call, const struct state *after, cons
 static void check(const struct call *call, size_t words, const struct state *before, const struct state *after,
                   const struct answer *answer) {
     uint32_t refused = refusal_in(call->kind, answer);
-    must((refused == PELLA_TOO_FEW_WORDS) == (words < PELLA_WORDS), "201 and the number of words disagree");
+    must((refused == PELLA_REFUSED_TOO_FEW_WORDS) == (words < PELLA_WORDS), "201 and the number of words disagree");
     check_block(call, after, answer);
     if (refused != 0)
         check_refused(before, after, answer);
-    if (refused == PELLA_TOO_FEW_WORDS)
+    if (refused == PELLA_REFUSED_TOO_FEW_WORDS)
         return;
     if (call->kind == FRESH || call->kind == TICK || call->kind == RESET)
         must(refused == 0, "fresh, tick or reset: refused");
@@ -587,7 +587,7 @@ static void check(const struct call *call, size_t words, const struct state *bef
     case TAKE_IN: check_taken(call, before, after, answer); break;
     case SEND: check_sent(before, after, answer); break;
     case REPORT: check_reported(call, answer); break;
-    case ABORT: must(refused == 0 || refused == PELLA_UNABLE_TO_ABORT, "abort: an answer that it hasn't"); break;
+    case ABORT: must(refused == 0 || refused == PELLA_REFUSED_UNABLE_TO_ABORT, "abort: an answer that it hasn't"); break;
     case FREEZE:
     case RELEASE: check_frozen(call, after, answer); break;
     case LOOK:
@@ -605,9 +605,9 @@ static void check(const struct call *call, size_t words, const struct state *bef
 static void check_desk_taken(const struct call *call, const struct state *before, const struct answer *answer) {
     uint32_t refused = refusal_of(call->block, call->length);
     if (refused == 0 && address_is_live(address_of(call->block)))
-        refused = PELLA_INVALID_REQUEST;
+        refused = PELLA_REFUSED_INVALID_REQUEST;
     else if (refused == 0 && (before->last_ticket == UINT32_MAX || how_many(NONE) == 0))
-        refused = PELLA_CAM_BUSY;
+        refused = PELLA_REFUSED_CAM_BUSY;
     must(answer->member[REFUSED] == refused, "take_in on the desk: another number than the block and the live requests call for");
     if (refused == 0)
         enter(answer->member[TICKET], call->block, call->length);
@@ -618,10 +618,10 @@ static void check_desk_sent(const struct state *before, const struct answer *ans
     struct request *request = request_of(member[TICKET]);
     int active = how_many(ACTIVE);
     if (!member[S_SENT]) {
-        must(member[S_LOOKED] == (active == PELLA_ACTIVE ? 0 : PELLA_UNITS), "send on the desk: nothing, and looked at is wrong");
+        must(member[S_LOOKED] == (active == PELLA_MOST_ACTIVE ? 0 : PELLA_UNITS), "send on the desk: nothing, and looked at is wrong");
         return;
     }
-    must(active < PELLA_ACTIVE, "send on the desk: one too many is active");
+    must(active < PELLA_MOST_ACTIVE, "send on the desk: one too many is active");
     must(request != NULL && request->stage == WAITING, "send on the desk: the ticket doesn't wait");
     must(member[S_UNIT] == unit_of(request->block), "send on the desk: another unit than the block's");
     must(member[S_UNIT] == (before->mark + member[S_LOOKED]) % PELLA_UNITS, "send on the desk: looked at is wrong");
@@ -638,14 +638,14 @@ static void check_desk_found(const struct answer *answer) {
         return;
     must(request != NULL && request->stage == FINISHED, "look on the desk: the ticket isn't finished");
     must(member[F_ADDRESS] == address_of(request->block) && member[F_CALLBACK] == get(request->block + PELLA_AT_CALLBACK, 4) &&
-             member[F_WANTED] == ((request->block[PELLA_AT_FLAGS] & PELLA_CALLBACK_DISABLED) == 0),
+             member[F_WANTED] == ((request->block[PELLA_AT_FLAGS] & PELLA_FLAG_CALLBACK_DISABLED) == 0),
          "look on the desk: address, callback or wanted are not the block's");
 }
 
 static void check_desk_handed(const struct answer *answer) {
     struct request *request = request_of(answer->member[TICKET]);
     uint8_t status = (uint8_t)answer->member[H_STATUS];
-    must((answer->member[REFUSED] == PELLA_NONE_FINISHED) == (how_many(FINISHED) == 0), "hand_back on the desk: 104 is wrong");
+    must((answer->member[REFUSED] == PELLA_REFUSED_NONE_FINISHED) == (how_many(FINISHED) == 0), "hand_back on the desk: 104 is wrong");
     if (answer->member[REFUSED] != 0)
         return;
     must(request != NULL && request->stage == FINISHED, "hand_back on the desk: the ticket isn't finished");
@@ -659,7 +659,7 @@ static void check_desk_handed(const struct answer *answer) {
 static void check_desk(const struct call *call, const struct state *before, const struct answer *answer) {
     struct request *request = request_of(call->ticket);
     uint32_t refused = refusal_in(call->kind, answer);
-    if (refused == PELLA_TOO_FEW_WORDS)
+    if (refused == PELLA_REFUSED_TOO_FEW_WORDS)
         return;
     switch (call->kind) {
     case FRESH: memset(books, 0, sizeof books); break;
@@ -667,7 +667,7 @@ static void check_desk(const struct call *call, const struct state *before, cons
     case SEND: check_desk_sent(before, answer); break;
     case REPORT:
         if (refusal_of_event(call) == 0)
-            must((refused == PELLA_NOT_ACTIVE) == (request == NULL || request->stage != ACTIVE), "report on the desk: 101 is wrong");
+            must((refused == PELLA_REFUSED_NOT_ACTIVE) == (request == NULL || request->stage != ACTIVE), "report on the desk: 101 is wrong");
         if (refused == 0)
             enter_end(request, call->event, call->scsi_status, call->moved);
         break;
@@ -706,7 +706,7 @@ static void try_call(const struct call *call, struct state *state, bool is_desk)
     struct manner manner = some_manner(!one_in(24));
     struct manner other = some_manner(manner.words >= PELLA_WORDS);
     other.layout = (enum layout)((manner.layout + 1 + below(2)) % LAYOUTS);
-    if (call->kind == REPORT && call->event != PELLA_COMPLETE) {
+    if (call->kind == REPORT && call->event != PELLA_EVENT_COMPLETE) {
         variant.scsi_status = any_number();
         variant.sense = any_number();
     }
@@ -759,7 +759,7 @@ static void call_desk(struct state *desk) {
         spoil(&call);
     now.memory = "a desk";
     try_call(&call, desk, true);
-    if (call.kind == FRESH && how_many(NONE) == PELLA_LIVE) {
+    if (call.kind == FRESH && how_many(NONE) == PELLA_MOST_LIVE) {
         desk->clock = one_in(2) ? 0 : UINT32_MAX - below(100);
         desk->mark = 63;
         desk->last_ticket = one_in(10) ? UINT32_MAX - below(500) : 0;

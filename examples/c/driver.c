@@ -45,22 +45,25 @@ static const uint32_t job_count = sizeof jobs / sizeof jobs[0];
 
 static const char *reason(uint32_t refused) {
     switch (refused) {
-    case PELLA_CAM_BUSY: return "all places are taken";
-    case PELLA_INVALID_REQUEST: return "the block has a wrong field, or the address of a live request";
-    case PELLA_INVALID_PATH: return "the block's path is not 0";
-    case PELLA_LENGTH_INADEQUATE: return "the block is too short, or its length field is wrong";
-    case PELLA_CANNOT_PROVIDE: return "the block asks for something that the desk doesn't do";
-    case PELLA_NOT_ACTIVE: return "the request is not active";
-    case PELLA_IMPLAUSIBLE: return "no adapter can have seen that";
-    case PELLA_NO_SUCH_UNIT: return "there is no such unit";
-    case PELLA_NOT_ITS_BLOCK: return "the block is too short, or another request's";
-    case PELLA_TOO_FEW_WORDS: return "the desk's memory is too small";
-    case PELLA_NO_SUCH_STATUS: case PELLA_NO_SUCH_SENSE: return "there is no such SCSI status or sense";
+    case PELLA_REFUSED_CAM_BUSY: return "all places are taken";
+    case PELLA_REFUSED_INVALID_REQUEST: return "the block has a wrong field, or the address of a live request";
+    case PELLA_REFUSED_INVALID_PATH: return "the block's path is not 0";
+    case PELLA_REFUSED_LENGTH_INADEQUATE: return "the block is too short, or its length field is wrong";
+    case PELLA_REFUSED_CANNOT_PROVIDE: return "the block asks for something that the desk doesn't do";
+    case PELLA_REFUSED_NOT_ACTIVE: return "the request is not active";
+    case PELLA_REFUSED_IMPLAUSIBLE: return "no adapter can have seen that";
+    case PELLA_REFUSED_NO_SUCH_UNIT: return "there is no such unit";
+    case PELLA_REFUSED_NOT_ITS_BLOCK: return "the block is too short, or another request's";
+    case PELLA_REFUSED_TOO_FEW_WORDS: return "the desk's memory is too small";
+    case PELLA_REFUSED_NO_SUCH_STATUS: case PELLA_REFUSED_NO_SUCH_SENSE: return "there is no such SCSI status or sense";
     default: return "for a reason that this driver never meets";
     }
 }
 
-/* Ends the program if a call was refused. A real driver has its own way out here. */
+/*
+ * Ends the program if a call was refused. A real driver goes on: it waits for a hand-back where the desk is full (05h), and notes a report
+ * that came too late (101) or can't be (102).
+ */
 static void stop_if(uint32_t refused, const char *doing) {
     if (refused != 0) {
         fprintf(stderr, "driver: %s was refused: %s\n", doing, reason(refused));
@@ -109,7 +112,7 @@ static void take_in(struct desk *desk, uint32_t address) {
     printf("ticket %u: a read of %u bytes from unit %u waits\n", job->ticket, job->asked, PELLA_UNIT(job->target, job->lun));
 }
 
-/* Sends whatever may go now: one request for each unit that isn't frozen, PELLA_ACTIVE in all. */
+/* Sends whatever may go now: one request for each unit that isn't frozen, PELLA_MOST_ACTIVE in all. */
 static void send_all(struct desk *desk) {
     for (;;) {
         struct pella_sent sent = pella_send(desk->memory, PELLA_WORDS, &desk->wheel);
@@ -127,7 +130,8 @@ static void report_all(struct desk *desk) {
         struct job *job = &jobs[i];
         if (!job->active)
             continue;
-        stop_if(pella_report(desk->memory, PELLA_WORDS, job->ticket, PELLA_COMPLETE, job->scsi_status, job->sense, job->moved), "a report");
+        stop_if(pella_report(desk->memory, PELLA_WORDS, job->ticket, PELLA_EVENT_COMPLETE, job->scsi_status, job->sense, job->moved),
+                "a report");
         job->active = false;
     }
 }
@@ -135,9 +139,9 @@ static void report_all(struct desk *desk) {
 /* How it ended. The other statuses of pellacrosta.h don't come from this adapter; a real driver names them all. */
 static const char *ending(const struct pella_handed *handed) {
     switch (handed->status & PELLA_STATUS_BASE) {
-    case PELLA_DONE: return handed->residual == 0 ? "completed:" : "completed, but";
-    case PELLA_OVERRUN: return "overrun:";
-    case PELLA_WITH_ERROR: return handed->scsi_status == CHECK_CONDITION ? "check condition:" : "completed with an error:";
+    case PELLA_STATUS_DONE: return handed->residual == 0 ? "completed:" : "completed, but";
+    case PELLA_STATUS_OVERRUN: return "overrun:";
+    case PELLA_STATUS_WITH_ERROR: return handed->scsi_status == CHECK_CONDITION ? "check condition:" : "completed with an error:";
     default: return "failed:";
     }
 }
@@ -159,10 +163,13 @@ static void tell(const struct job *job, const struct pella_handed *handed) {
     printf("\n");
 }
 
-/* A frozen unit is sent nothing before it is released: time to put things right there. Here nothing needs to be done. */
+/*
+ * A bad end froze the unit, so that nothing is sent to it before somebody has put things right there. Here nothing needs to be done. (A
+ * good end with +40h isn't the cause of its unit's freeze: whoever froze it releases it.)
+ */
 static void release(struct desk *desk, uint32_t unit) {
-    uint32_t was_frozen = pella_release(desk->memory, PELLA_WORDS, unit);
-    if (was_frozen > 1) /* 0 and 1 are answers, and no refusals */
+    uint32_t was_frozen = pella_release(desk->memory, PELLA_WORDS, unit); /* 0 or 1, or a refusal */
+    if (PELLA_IS_REFUSED(was_frozen))
         stop_if(was_frozen, "a release");
     printf("unit %u is released\n", unit);
 }
@@ -178,7 +185,7 @@ static void hand_back_all(struct desk *desk) {
         struct pella_handed handed = pella_hand_back(desk->memory, PELLA_WORDS, job->block, PELLA_BLOCK_BYTES);
         stop_if(handed.refused, "a hand-back");
         tell(job, &handed);
-        if (handed.status & PELLA_STATUS_FROZEN)
+        if ((handed.status & PELLA_STATUS_BASE) != PELLA_STATUS_DONE)
             release(desk, PELLA_UNIT(job->target, job->lun));
     }
 }

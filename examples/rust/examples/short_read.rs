@@ -19,9 +19,12 @@ fn main() -> Result<(), Refusal> {
     // The adapter interrupts: complete, SCSI status 00h, 500 bytes moved.
     desk.report(ticket, Event::GOOD, 500)?;
 
-    // What is finished goes back to its host.
-    let back = desk.hand_back(&mut block.0)?;
-    println!("handed back: ticket {}, {}, residual {}", back.ticket.0, back.status, back.residual);
-    println!("{}", if back.is_whole() { "the read is whole" } else { "the read is not whole" });
+    // What is finished goes back to its host. The look says whose block is to be lent: here there is one.
+    while let Some(first) = desk.look() {
+        assert_eq!(first.address, 0x1000);
+        let back = desk.hand_back(&mut block.0)?;
+        println!("handed back: ticket {}, {}, residual {}", back.ticket.0, back.status, back.residual);
+        println!("{}", if back.is_whole() { "the read is whole" } else { "the read is not whole" });
+    }
     Ok(())
 }

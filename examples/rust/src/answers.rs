@@ -124,7 +124,7 @@ impl Status {
         self.0 & 0x3F
     }
 
-    /// The unit was frozen after this end: nothing is sent to it before a release.
+    /// The unit was frozen right after this end, by it or by another cause. It may be released since.
     pub const fn frozen(self) -> bool {
         self.0 & 0x40 != 0
     }

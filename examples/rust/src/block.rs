@@ -11,8 +11,8 @@ impl Block {
     pub const AUTOSENSE_DISABLED: u32 = 0x20;
     /// Flag: the callback isn't wanted.
     pub const CALLBACK_DISABLED: u32 = 0x08;
-    /// Flag: SIM Queue Priority, to the front of the unit's waiting order.
-    pub const TO_THE_FRONT: u32 = 0x1000;
+    /// Flag: SIM Queue Priority, to the head of the unit's waiting order.
+    pub const TO_THE_HEAD: u32 = 0x1000;
 
     /// A block with an address, which tells live requests apart, a unit and a CDB of 1 to 12 bytes. It asks for no data and no sense, its
     /// timeout is 0, which means 30 seconds, and no flag is set.
@@ -35,6 +35,11 @@ impl Block {
     pub fn sense_length(mut self, bytes: u8) -> Block {
         self.0[44] = bytes;
         self
+    }
+
+    /// Its callback, which a look gives.
+    pub fn callback(self, number: u32) -> Block {
+        self.with(28, number)
     }
 
     /// Its timeout in seconds; 0 means 30, FFFFFFFFh never.

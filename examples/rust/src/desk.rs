@@ -25,9 +25,13 @@ pub struct Desk {
 
 impl Desk {
     /// A fresh desk: no request, no unit frozen, clock 0, mark 63, no ticket given.
+    ///
+    /// # Panics
+    ///
+    /// If the archive that was linked is another than this crate is written for, and asks for more memory.
     pub fn new() -> Desk {
         let mut desk = Desk { memory: ffi::ZEROS, wheel: Wheel { clock: 0, mark: Unit(63) }, last_ticket: 0 };
-        not_refused(ffi::pella_fresh(&mut desk.memory, ALL));
+        assert_eq!(ffi::pella_fresh(&mut desk.memory, ALL), 0, "this libpellacrosta.a is not the one that this crate is for");
         desk
     }
 
@@ -40,9 +44,9 @@ impl Desk {
         Refusal::check(refused).map(|()| given)
     }
 
-    /// Sends: the first unit after the mark on which something waits, that isn't frozen and has nothing active, is sent its first waiting
-    /// request. The request becomes active, its time starts at the clock, and the mark becomes the unit. If nothing can be sent, nothing is
-    /// altered.
+    /// Sends. With 8 requests active nothing is sent. Otherwise units are looked at from the one after the mark round to the mark itself: the
+    /// first on which something waits, that isn't frozen and has nothing active, is sent its first waiting request. The request becomes active,
+    /// its time starts at the clock, and the mark becomes the unit. If nothing can be sent, nothing is altered.
     pub fn send(&mut self) -> Sending {
         let Answer { refused, given } = ffi::pella_send(&mut self.memory, ALL, &mut self.wheel);
         not_refused(refused);
@@ -75,14 +79,15 @@ impl Desk {
         was_frozen(ffi::pella_release(&mut self.memory, ALL, unit.0.into()))
     }
 
-    /// A second has passed: the clock goes on by one, from FFFFFFFFh to 0, and each active request whose time is over is overdue from then
-    /// on. Gives the clock.
+    /// A second has passed: the clock goes on by one, from FFFFFFFFh to 0, and each active request that was sent more seconds ago than its
+    /// timeout is overdue from then on. That ends nothing by itself: what is reported next ends it with 0Bh. Gives the clock.
     pub fn tick(&mut self) -> u32 {
         not_refused(ffi::pella_tick(&mut self.memory, ALL, &mut self.wheel));
         self.clock()
     }
 
-    /// The bus was reset: every active request ends with 0Eh, the smallest ticket first, and its unit is frozen. Waiting ones stay.
+    /// The bus was reset: every active request ends with 0Eh and the whole data length missing, the smallest ticket first, and its unit is
+    /// frozen. Waiting ones stay.
     pub fn reset(&mut self) {
         not_refused(ffi::pella_reset(&mut self.memory, ALL));
     }
@@ -132,8 +137,7 @@ impl fmt::Debug for Desk {
     }
 }
 
-/// For calls whose only refusal is 201, which can't come (see `Refusal::Unexpected`). If it did, a debug build would say so here; in any
-/// build nothing would go wrong unseen, since no request would be taken in.
+/// For calls whose only refusal is 201, which can't come: `new` has seen that the words are enough.
 fn not_refused(number: u32) {
     debug_assert_eq!(number, 0, "refused, although all words were lent");
 }

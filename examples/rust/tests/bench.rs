@@ -112,7 +112,7 @@ fn timeout_of_5() {
 
 #[test]
 fn priority_rotation_and_reset() {
-    let (mut desk, mut first, mut second, mut third) = (Desk::new(), read(1, 9), read(2, 8), read(3, 8).flags(Block::TO_THE_FRONT));
+    let (mut desk, mut first, mut second, mut third) = (Desk::new(), read(1, 9), read(2, 8), read(3, 8).flags(Block::TO_THE_HEAD));
     assert_eq!([&mut first, &mut second, &mut third].map(|block| desk.take_in(&mut block.0)), [1, 2, 3].map(|number| Ok(Ticket(number))));
     assert_eq!(desk.send(), Sending::Sent { ticket: Ticket(3), unit: Unit(8), looked: 9, cdb: CDB });
     assert_eq!(desk.send(), Sending::Sent { ticket: Ticket(1), unit: Unit(9), looked: 1, cdb: CDB });
