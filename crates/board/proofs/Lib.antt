@@ -2,7 +2,7 @@
 pub mod Open
 pub mod Bench
 pub mod Choose
-pub mod Codes
+pub mod Numbers
 pub mod Written
 pub mod Answers
 pub mod Refusals

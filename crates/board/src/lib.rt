@@ -1,7 +1,8 @@
 // The kinds of thing that document 01 speaks of, declared once: the definitions in specs/ and the code of the crates
-// above use the same types. In document 01's order. There is no code here but what numbers name: an event's code, a refusal's
-// number.
+// above use the same types. In document 01's order. There is no code here but what numbers name: a unit's number, an event's
+// code, a refusal's number.
 ghost use mathlib.Core.Path.{_≡_};
+ghost use Prim.Native.Nat.{min};
 ghost use Rattle.board.specs.Answers.{number};
 ghost use Rattle.board.specs.Ending.{event-named};
 
@@ -13,6 +14,16 @@ pub struct Ticket(pub u32);
 
 // Target x 8 + LUN, 0 to 63.
 pub struct Unit(pub u8);
+
+// A unit by any number: one above 255 is never cut to 8 bits. (255 is no unit either.)
+pub fn unit_numbered(n: u32) -> Unit
+    ensures { λ r. ⌜ r .0 ≡ min n 255 ⌝ }
+{
+    if n < 255 {
+        return Unit(n as u8);
+    }
+    Unit(255)
+}
 
 // The 12 CDB bytes as three little-endian words, since an enum (a send's answer) can't hold an array.
 pub struct Cdb {

@@ -6,6 +6,7 @@ use mathlib.Core.Logic.{_≢_}
 use mathlib.Core.Bool.{Bool, true, false, not}
 use mathlib.Core.List.{List, map}
 use Rattle.board.specs.declared.Finished.{Finished}
+use Rattle.board.specs.declared.Told.{Told}
 use Rattle.board.specs.Plain.{if_then_else_}
 use Rattle.board.specs.Board.{with-finished}
 use Rattle.board.specs.Answers.{refused, handed, Stepped}
@@ -26,6 +27,7 @@ unfolding step handing-back first-to
 hand-back-empty m s h = record {
   does = λ r. unchanged (refused 104) s (λ v. ap (first-to (view m r) s) (line-empty m r h v));
   unwritten = λ n e. refl;
+  written = λ t x e. let y : _≡_ {A = ℕ} 0 1 = cc in absurd (omega arith);
 }
 
 -- what a hand-back makes of a board whose line begins with x, by whether the block is another's
@@ -40,6 +42,7 @@ unfolding step handing-back first-to
 hand-back-other m s h o = record {
   does = λ r. unchanged (refused 105) s (λ v. ap (first-to (view m r) s) (line-first m r h v) ∙ ap (by m r s (finished-at m (head m 1)) _) o);
   unwritten = λ n e. refl;
+  written = λ t x e. let y : _≡_ {A = ℕ} 0 1 = cc in absurd (omega arith);
 }
 
 -- the first finished request is removed
@@ -90,6 +93,7 @@ pub hand-back-first : (m s : List ℕ) → head m 1 < 32 → not-its-block s (fi
 hand-back-first m s h o = record {
   does = λ r. leaves (λ v. removed m r h v s o) (λ n z. let y : _≡_ {A = ℕ} 0 1 = cc in absurd (omega arith));
   unwritten = λ n z. let y : _≡_ {A = ℕ} 0 1 = cc in absurd (omega arith);
+  written = λ t x z. let y : finished-at m (head m 1) .told ≡ x = cc in ap (λ (w : Told). with-told w s) y;
 }
 
 -- what the answer of the leaf says of the block

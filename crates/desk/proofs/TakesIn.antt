@@ -162,6 +162,8 @@ refuses m s given n e = record {
   does = λ clock mark. turned-away m (the-rest clock mark given) s n (e clock mark);
   byte-7 = λ k z. let y : n ≡ k = cc in ap (λ i. with-status i s) y;
   no-ticket = λ k z. refl;
+  byte-7-clear = λ t z. let y : _≡_ {A = ℕ} 0 1 = cc in absurd (omega arith);
+  next-ticket = λ t z. let y : _≡_ {A = ℕ} 0 1 = cc in absurd (omega arith);
   size = status-size n s;
 }
 
@@ -301,5 +303,7 @@ taken-in m t s q front given p fits h l f n = record {
       (λ k z. let y : _≡_ {A = ℕ} 0 1 = cc in absurd (omega arith));
   byte-7 = λ k z. let y : _≡_ {A = ℕ} 0 1 = cc in absurd (omega arith);
   no-ticket = λ k z. let y : _≡_ {A = ℕ} 0 1 = cc in absurd (omega arith);
+  byte-7-clear = λ u z. refl;
+  next-ticket = λ u z. let y : t ≡ u = cc in (ap (λ (x : Ticket). x .0) (sym y) ∙ n, n);
   size = status-size 0x00 s;
 }

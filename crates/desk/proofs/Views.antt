@@ -43,6 +43,16 @@ does {m} {m'} {r} {r'} {c} rows board says lent untouched = record {
   untouched = untouched;
 }
 
+-- a call that makes the same step keeps the same promise
+pub does-as : {m m' : List ℕ} {r r' : Rest} {a : Answer} {s' : List ℕ} (c c' : Call) → ((b : Board) → step b c ≡ step b c') → Does m m' r r' c a s' → Does m m' r r' c' a s'
+does-as {m} {r = r} c c' e d = record {
+  valid = d .valid;
+  board = λ v. d .board v ∙ ap (λ x. x .board) (e (view m r));
+  says = λ v. d .says v ∙ ap (λ x. x .answer) (e (view m r));
+  lent = λ v. d .lent v ∙ ap (λ x. x .lent) (e (view m r));
+  untouched = d .untouched;
+}
+
 -- the same from what the call leaves, said of whatever `step` is equal to
 pub record Leaves (m' : List ℕ) (r' : Rest) (a : Answer) (s' : List ℕ) (t : Stepped) : Type 0 where
   pub rows : Sound-rows m'

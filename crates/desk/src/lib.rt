@@ -39,7 +39,7 @@ ghost use Rattle.desk.specs.View.{request-at, active-at, finished-at, Re
 ghost use Rattle.desk.specs.Begins.{cleared};
 ghost use Rattle.desk.specs.Ticking.{marked, marked-from};
 ghost use Rattle.desk.specs.Resets.{reset-told, reset-words, smallest-spot, Smallest-ended};
-ghost use Rattle.desk.specs.Promise.{Does, Hands-back, Takes-in, Fresh};
+ghost use Rattle.desk.specs.Promise.{Does, Hands-back, Takes-in, Ticks, Fresh};
 
 // A word as an index.
 fn wide(x: u32) -> usize
@@ -628,7 +628,7 @@ fn mark_late(mem: &mut [u32; WORDS], clock: u32)
 
 // Tick: the clock counts seconds in 32 bits and goes round; each active request that is late by then is overdue, and stays so.
 pub fn tick(mem: &mut [u32; WORDS], clock: u32) -> u32
-    ensures { λ r. ⌜ ((mark : Unit) (given : ℕ) → Does (now (mem .entry)) (now (mem .exit)) (the-rest clock mark given) (the-rest r mark given) tick (time r) []) ⌝ }
+    ensures { λ r. ⌜ Ticks (now (mem .entry)) (now (mem .exit)) clock r ⌝ }
 {
     let next = std::num::wrapping_add_u32(clock, 1);
     mark_late(mem, next);

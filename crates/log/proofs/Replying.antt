@@ -1,5 +1,5 @@
 -- A call on a memory that holds a state, and what the copies do then, is the definition's answer to a record. Assumes nothing.
-use Prim.Native.Nat.{ℕ, _<_, _≤_, min}
+use Prim.Native.Nat.{ℕ, _≤_}
 use native.Mathlib.Omega.{arith}
 use mathlib.Core.Path.{_≡_, refl, sym, ap, _∙_, subst, fun-ext}
 use mathlib.Core.Bool.{Bool, false}
@@ -15,16 +15,12 @@ use Rattle.board.specs.declared.Aborting.{Aborting}
 use Rattle.board.specs.declared.Aborting.the-variants as aborting
 use Rattle.board.specs.declared.Freezing.{Freezing}
 use Rattle.board.specs.declared.Freezing.the-variants as freezing
-use Rattle.board.specs.declared.Unit.{Unit}
-use Rattle.board.specs.Plain.{_≤?_}
-use Rattle.board.specs.Board.{the-unit, units, Freeze, Board, fresh, live}
-use Rattle.board.proofs.Choose.{by-cases, at-most, not-at-most, unless-below, one-unit}
+use Rattle.board.specs.Board.{the-unit, Board, fresh, live}
 use Rattle.board.proofs.Weigh.{one, weigh-count}
 use Rattle.board.proofs.Kept.{live-mass}
 use Rattle.board.proofs.Places.{fresh-mass}
 use Rattle.board.specs.Answers.{Answer, refused, done, time, sending-says, reporting-says, aborting-says, freezing-says}
 use Rattle.board.specs.Calls.{Call, step}
-use Rattle.board.specs.Calls.{freezing as freezing-by}
 use Rattle.board.specs.Demand3.{given-by, handed-by}
 use Rattle.lines.specs.Record.{Record, malformed, room, Parsed}
 use Rattle.lines.specs.declared.Line.the-variants as line
@@ -126,25 +122,6 @@ pub neither-freezing : (a : Freezing) → Neither (freezing-says a)
 unfolding given-by handed-by
 neither-freezing (freezing.Before n) = record { gives = refl; hands = refl }
 neither-freezing freezing.NoSuchUnit = neither-refused 103
-
--- ---- a unit by any number
-
--- a call that makes the same step
-pub does-as : {w w' : List ℕ} {p p' : Rest} {a : Answer} {lent : List ℕ} (c c' : Call) → ((b : Board) → step b c ≡ step b c') → Does w w' p p' c a lent → Does w w' p p' c' a lent
-does-as {w} {p = p} c c' e d = record {
-  valid = d .valid;
-  board = λ v. d .board v ∙ ap (λ x. x .board) (e (view w p));
-  says = λ v. d .says v ∙ ap (λ x. x .answer) (e (view w p));
-  lent = λ v. d .lent v ∙ ap (λ x. x .lent) (e (view w p));
-  untouched = d .untouched;
-}
-
--- a number above 255 and 255 itself are no units
-pub any-unit : (change : Freeze → Freeze) (b : Board) (u : Unit) (n : ℕ) → u .0 ≡ min n 255 → freezing-by change b u ≡ freezing-by change b (the-unit n)
-unfolding freezing-by
-any-unit change b u n e = by-cases (n ≤? 255)
-    (λ h. let l : n ≤ 255 = at-most h in let k : u .0 ≡ n = omega arith in ap (freezing-by change b) (one-unit k))
-    (λ h. let l : 255 < n = not-at-most h in let k : u .0 ≡ 255 = omega arith in rw (unless-below {m = u .0} {n = units} (omega arith), unless-below {m = n} {n = units} (omega arith)) refl)
 
 -- ---- a line not of the form
 

@@ -130,21 +130,11 @@ fn abort(mem: &mut [u32; WORDS], counters: Counters, ticket: Ticket, text: &mut 
     }
 }
 
-// A unit by any number: one above 255 is never cut to 8 bits. (255 is no unit either.)
-fn unit_of(n: u32) -> Unit
-    ensures { λ r. ⌜ r .0 ≡ min n 255 ⌝ }
-{
-    if n < 255 {
-        return Unit(n as u8);
-    }
-    Unit(255)
-}
-
 // F: a unit is frozen.
 fn freeze(mem: &mut [u32; WORDS], counters: Counters, n: u32, text: &mut [u8; 64]) -> Reply
     ensures { λ r. ⌜ ((b s : List ℕ) → Replies (memory (now (mem .entry)) b s counters) (memory (now (mem .exit)) b s (r .counters)) (freeze n) (now (text .entry)) (now (text .exit)) (r .length)) ⌝ }
 {
-    let answer = desk::freeze(mem, unit_of(n));
+    let answer = desk::freeze(mem, board::unit_numbered(n));
     Reply {
         counters,
         length: answers::freezing(answer, text),
@@ -155,7 +145,7 @@ fn freeze(mem: &mut [u32; WORDS], counters: Counters, n: u32, text: &mut [u8; 64
 fn release(mem: &mut [u32; WORDS], counters: Counters, n: u32, text: &mut [u8; 64]) -> Reply
     ensures { λ r. ⌜ ((b s : List ℕ) → Replies (memory (now (mem .entry)) b s counters) (memory (now (mem .exit)) b s (r .counters)) (release n) (now (text .entry)) (now (text .exit)) (r .length)) ⌝ }
 {
-    let answer = desk::release(mem, unit_of(n));
+    let answer = desk::release(mem, board::unit_numbered(n));
     Reply {
         counters,
         length: answers::releasing(answer, text),

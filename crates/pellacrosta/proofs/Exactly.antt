@@ -16,41 +16,41 @@ use Rattle.board.specs.declared.HandingBack.{HandingBack}
 use Rattle.board.specs.declared.HandingBack.the-variants as back
 use Rattle.board.specs.Answers.{taking-in-says, sending-says, reporting-says, aborting-says, freezing-says, looking-says, handing-back-says}
 use Rattle.pellacrosta.specs.Forms.{as-taken, as-sent, as-reported, as-aborted, as-frozen, as-first, as-handed}
-use Rattle.pellacrosta.specs.Exact.{number, Exact}
+use Rattle.pellacrosta.specs.Exact.{told, Exact}
 
-taking-in : (a : TakingIn) → as-taken a .refused ≡ number (taking-in-says a)
-unfolding number
+taking-in : (a : TakingIn) → as-taken a .refused ≡ told (taking-in-says a)
+unfolding told
 taking-in (Taken t) = refl
 taking-in (Refused why) = refl
 
-sending : (a : Sending) → as-sent a .refused ≡ number (sending-says a)
-unfolding number
+sending : (a : Sending) → as-sent a .refused ≡ told (sending-says a)
+unfolding told
 sending (Sent t u cdb looked) = refl
 sending (Nothing looked) = refl
 
-reporting : (a : Reporting) → as-reported a ≡ number (reporting-says a)
-unfolding number
+reporting : (a : Reporting) → as-reported a ≡ told (reporting-says a)
+unfolding told
 reporting Ended = refl
 reporting NotActive = refl
 reporting Implausible = refl
 
-aborting : (a : Aborting) → as-aborted a ≡ number (aborting-says a)
-unfolding number
+aborting : (a : Aborting) → as-aborted a ≡ told (aborting-says a)
+unfolding told
 aborting Done = refl
 aborting UnableToAbort = refl
 
-freezing : (a : Freezing) → as-frozen a ≡ number (freezing-says a)
-unfolding number
+freezing : (a : Freezing) → as-frozen a ≡ told (freezing-says a)
+unfolding told
 freezing (Before n) = refl
 freezing NoSuchUnit = refl
 
-looking : (a : Looking) → as-first a .refused ≡ number (looking-says a)
-unfolding number
+looking : (a : Looking) → as-first a .refused ≡ told (looking-says a)
+unfolding told
 looking (looked.First t address callback wanted) = refl
 looking looked.Empty = refl
 
-handing-back : (a : HandingBack) → as-handed a .refused ≡ number (handing-back-says a)
-unfolding number
+handing-back : (a : HandingBack) → as-handed a .refused ≡ told (handing-back-says a)
+unfolding told
 handing-back (back.Handed t x) = refl
 handing-back back.Empty = refl
 handing-back back.NotItsBlock = refl

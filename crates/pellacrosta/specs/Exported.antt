@@ -16,7 +16,7 @@ use Rattle.pellacrosta.specs.Forms.{as-reported}
 abbrev pub desk-words : ℕ
 desk-words = 838
 
--- An exported call that is lent so many words: with too few of them it is refused and alters nothing, otherwise it does its work.
+-- An exported call that is lent so many words: `refused` is what holds with too few of them, `works` otherwise.
 pub record Exported (words : ℕ) (refused works : Type 0) : Type 0 where
   pub short : words < desk-words → refused
   pub lent : desk-words ≤ words → works
@@ -24,7 +24,7 @@ pub record Exported (words : ℕ) (refused works : Type 0) : Type 0 where
 -- C is given r: the form of an answer of which this is promised
 pub record Given {A R : Type 0} (form : A → R) (r : R) (promise : A → Type 0) : Type 0 where
   pub answer : A
-  pub given : r ≡ form answer
+  pub formed : r ≡ form answer
   pub keeps : promise answer
 
 -- from the words m to m', a call that leaves clock, mark and last ticket alone and is lent no block

@@ -2,9 +2,8 @@
 -- 0 or false. Assumes nothing.
 use Prim.Native.Nat.{ℕ}
 use mathlib.Core.Bool.{true, false}
-use mathlib.Core.List.{List, [], _∷_, _++_}
+use mathlib.Core.List.{[], _∷_}
 use lib.IntN.{pos}
-use Rattle.board.specs.declared.Cdb.{Cdb}
 use Rattle.board.specs.declared.TakingIn.{TakingIn}
 use Rattle.board.specs.declared.TakingIn.the-variants as taking-in
 use Rattle.board.specs.declared.Sending.{Sending}
@@ -19,8 +18,9 @@ use Rattle.board.specs.declared.Looking.{Looking}
 use Rattle.board.specs.declared.Looking.the-variants as looking
 use Rattle.board.specs.declared.HandingBack.{HandingBack}
 use Rattle.board.specs.declared.HandingBack.the-variants as handing-back
+use Rattle.board.specs.Plain.{if_then_else_, _=?_}
 use Rattle.board.specs.Answers.{number}
-use Rattle.board.specs.Block.{bytes4}
+use Rattle.board.specs.Block.{cdb-bytes}
 use Rattle.pellacrosta.specs.declared.Taken.{Taken}
 use Rattle.pellacrosta.specs.declared.Sent.{Sent}
 use Rattle.pellacrosta.specs.declared.First.{First}
@@ -36,10 +36,6 @@ as-taken (taking-in.Taken t) = record { refused = 0; ticket = t .0 }
 as-taken (taking-in.Refused why) = not-taken (number why)
 
 -- ---- sending
-
--- the 12 bytes of three little-endian words
-abbrev pub cdb-bytes : Cdb → List ℕ
-cdb-bytes c = bytes4 (c .first) ++ bytes4 (c .second) ++ bytes4 (c .third)
 
 abbrev pub not-sent : (refused looked : ℕ) → Sent
 not-sent n looked = record { refused = n; ticket = 0; sent = false; unit = 0; looked = looked; cdb = 0 ∷ 0 ∷ 0 ∷ 0 ∷ 0 ∷ 0 ∷ 0 ∷ 0 ∷ 0 ∷ 0 ∷ 0 ∷ 0 ∷ [] }
@@ -60,7 +56,7 @@ as-aborted aborting.Done = 0
 as-aborted aborting.UnableToAbort = 0x03
 
 abbrev pub as-frozen : Freezing → ℕ
-as-frozen (freezing.Before n) = n
+as-frozen (freezing.Before n) = if n =? 0 then 0 else 1
 as-frozen freezing.NoSuchUnit = 103
 
 -- ---- look at the finished line

@@ -1,14 +1,12 @@
--- What the numbers that C passes mean: an event's kind, SCSI status and sense, and a unit. The refusals 202 to 204 are the library's own.
+-- What the numbers that C passes with a report mean: an event's kind, its SCSI status and its sense. The refusals 202 to 204 are the library's own.
 -- Assumes nothing.
 use Prim.Native.Nat.{ℕ}
-use Rattle.board.specs.declared.Unit.{Unit}
 use Rattle.board.specs.declared.Event.the-variants.{AbortDone, Complete}
 use Rattle.board.specs.declared.Coded.{Coded}
 use Rattle.board.specs.declared.Coded.the-variants.{Names, Nothing}
 use Rattle.board.specs.declared.Sense.{Sense}
 use Rattle.board.specs.declared.Sense.the-variants.{Bytes, Failed, None}
 use Rattle.board.specs.Plain.{if_then_else_, _=?_, _<?_}
-use Rattle.board.specs.Board.{the-unit}
 use Rattle.board.specs.Ending.{event-named}
 use Rattle.pellacrosta.specs.declared.Meant.{Meant}
 use Rattle.pellacrosta.specs.declared.Meant.the-variants.{Event, Unclear}
@@ -35,7 +33,3 @@ event-meant kind scsi sense =
     if kind =? 0x01 then complete-meant scsi sense
     else if kind =? 0x02 then Event AbortDone
     else code-meant (event-named kind)
-
--- a unit in the 8 bits that the desk takes: a number that doesn't fit is no unit, and neither is 255
-abbrev pub unit-meant : ℕ → Unit
-unit-meant n = if 255 <? n then the-unit 255 else the-unit n

@@ -13,17 +13,18 @@ use board::Sending;
 use board::Sense;
 use board::TakingIn;
 use board::Ticket;
-use board::Unit;
 use rows::WORDS;
 use wheel::Wheel;
 ghost use mathlib.Core.Path.{_≡_};
 ghost use Rattle.board.specs.Answers.{aborting-says, done, freezing-says, handing-back-says, looking-says, taking-in-says};
 ghost use Rattle.board.specs.Board.{the-ticket, the-unit};
+ghost use Rattle.board.specs.Plain.{if_then_else_, _=?_};
+ghost use Rattle.board.specs.Block.{cdb-bytes};
 ghost use Rattle.board.specs.Calls.{abort, freeze, look, release, reset};
 ghost use Rattle.desk.specs.Promise.{Fresh, Hands-back, Takes-in};
 ghost use Rattle.wheel.specs.Turned.{Sends, Ticks};
-ghost use Rattle.pellacrosta.specs.Meaning.{complete-meant, event-meant, sense-meant, unit-meant};
-ghost use Rattle.pellacrosta.specs.Forms.{as-aborted, as-first, as-frozen, as-handed, as-reported, as-sent, as-taken, cdb-bytes, not-found, not-handed, not-sent, not-taken};
+ghost use Rattle.pellacrosta.specs.Meaning.{complete-meant, event-meant, sense-meant};
+ghost use Rattle.pellacrosta.specs.Forms.{as-aborted, as-first, as-frozen, as-handed, as-reported, as-sent, as-taken, not-found, not-handed, not-sent, not-taken};
 ghost use Rattle.pellacrosta.specs.Exported.{Alone, Exported, Given, Reports};
 
 // ---- the records that C is given. Each begins with the number of a refusal, or 0; what doesn't apply is 0 or false.
@@ -119,16 +120,6 @@ fn event_meant(kind: u32, scsi: u32, sense: u32) -> Meant
         Coded::Names(what) => Meant::Event(what),
         Coded::Nothing => Meant::Unclear(202),
     }
-}
-
-// The unit of a number. One above 255 is no unit, as 255 is none.
-fn unit_meant(number: u32) -> Unit
-    ensures { λ r. ⌜ r ≡ unit-meant number ⌝ }
-{
-    if 255 < number {
-        return Unit(255);
-    }
-    Unit(number as u8)
 }
 
 // ---- what an answer is in C
@@ -233,12 +224,22 @@ fn as_aborted(a: Aborting) -> u32
     }
 }
 
+// 0 is 0, and all else is 1.
+fn bit(n: u8) -> u32
+    ensures { λ r. ⌜ r ≡ (if n =? 0 then 0 else 1) ⌝ }
+{
+    if n == 0 {
+        return 0;
+    }
+    1
+}
+
 // Freeze, release.
 fn as_frozen(a: Freezing) -> u32
     ensures { λ r. ⌜ r ≡ as-frozen a ⌝ }
 {
     match a {
-        Freezing::Before(n) => n as u32,
+        Freezing::Before(n) => bit(n),
         Freezing::NoSuchUnit => 103,
     }
 }
@@ -403,7 +404,7 @@ pub extern "C" fn pella_freeze(mem: &mut [u32; WORDS], words: usize, unit: u32) 
     if words < WORDS {
         return 201;
     }
-    as_frozen(desk::freeze(mem, unit_meant(unit)))
+    as_frozen(desk::freeze(mem, board::unit_numbered(unit)))
 }
 
 // Release a unit.
@@ -415,7 +416,7 @@ pub extern "C" fn pella_release(mem: &mut [u32; WORDS], words: usize, unit: u32)
     if words < WORDS {
         return 201;
     }
-    as_frozen(desk::release(mem, unit_meant(unit)))
+    as_frozen(desk::release(mem, board::unit_numbered(unit)))
 }
 
 // Tick.

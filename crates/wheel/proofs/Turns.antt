@@ -6,13 +6,14 @@ use Rattle.board.specs.declared.Unit.{Unit}
 use Rattle.board.specs.declared.Sending.{Sending}
 use Rattle.board.specs.declared.Sending.the-variants as sending
 use Rattle.board.specs.Board.{the-unit, Board}
-use Rattle.board.specs.Answers.{sending-says, time, Stepped}
+use Rattle.board.specs.Answers.{sending-says, Stepped}
 use Rattle.board.specs.Sending.{after}
-use Rattle.board.specs.Calls.{send, tick, step}
+use Rattle.board.specs.Calls.{send, step}
 use Rattle.board.specs.Sends as the
 use Rattle.board.proofs.Sends as every
 use Rattle.desk.specs.View.{Rest, the-rest, view, Valid}
 use Rattle.desk.specs.Promise.{Does}
+use Rattle.desk.specs.Promise as desk
 use Rattle.wheel.specs.declared.Wheel.{Wheel}
 use Rattle.wheel.specs.Turned.{mark-after, rest-of, Sends-from, Ticks, Sends}
 
@@ -52,12 +53,8 @@ with-clock w n = record { clock = n; mark = w .mark }
 abbrev pub with-mark : Wheel → ℕ → Wheel
 with-mark w n = record { clock = w .clock; mark = n }
 
--- what the desk promises of a tick
-abbrev pub Ticks-from : (m m' : List ℕ) (clock r : ℕ) → Type 0
-Ticks-from m m' clock r = (mark : Unit) (given : ℕ) → Does m m' (the-rest clock mark given) (the-rest r mark given) tick (time r) []
-
-pub ticks : (m m' : List ℕ) (w : Wheel) (r : ℕ) → Ticks-from m m' (w .clock) r → Ticks m m' w (with-clock w r) r
-ticks m m' w r d = record { clock = refl; mark = refl; does = d (the-unit (w .mark)) }
+pub ticks : (m m' : List ℕ) (w : Wheel) (r : ℕ) → desk.Ticks m m' (w .clock) r → Ticks m m' w (with-clock w r) r
+ticks m m' w r d = record { clock = refl; second = d .second; mark = refl; does = d .does (the-unit (w .mark)) }
 
 pub sends : (m m' : List ℕ) (w : Wheel) (a : Sending) (n : ℕ) → Sends-from m m' (w .clock) (w .mark) a → n ≡ mark-after a (w .mark) → Sends m m' w (with-mark w n) a
 sends m m' w a n d e = record {

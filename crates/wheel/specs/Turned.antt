@@ -1,5 +1,5 @@
 -- What a tick and a send promise of the wheel and of the board. Assumes nothing.
-use Prim.Native.Nat.{ℕ}
+use Prim.Native.Nat.{ℕ, suc, _%_, _^_}
 use mathlib.Core.Path.{_≡_}
 use mathlib.Core.List.{List, []}
 use Rattle.board.specs.declared.Sending.{Sending}
@@ -25,10 +25,11 @@ abbrev pub Sends-from : (m m' : List ℕ) (clock mark : ℕ) (a : Sending) → T
 Sends-from m m' clock mark a =
     (given : ℕ) → Does m m' (the-rest clock (the-unit mark) given) (the-rest clock (the-unit (mark-after a mark)) given) send (sending-says a) []
 
--- A tick, from the words m and the wheel w to m' and w', with this answer. Of EVERY memory: the clock is the answer, and the mark is as
--- it was. And what the desk promises of a tick, whatever the last ticket given.
+-- A tick, from the words m and the wheel w to m' and w', with this answer. Of EVERY memory: the clock is the answer, which is the next
+-- second, and the mark is as it was. And what the desk promises of a tick, whatever the last ticket given.
 pub record Ticks (m m' : List ℕ) (w w' : Wheel) (r : ℕ) : Type 0 where
   pub clock : w' .clock ≡ r
+  pub second : r ≡ suc (w .clock) % 2 ^ 32
   pub mark : w' .mark ≡ w .mark
   pub does : (given : ℕ) → Does m m' (rest-of w given) (rest-of w' given) tick (time r) []
 

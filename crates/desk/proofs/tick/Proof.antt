@@ -14,9 +14,13 @@ mark-late-requires : tie.Need-mark-late-requires
 mark-late-requires c κs = search needs
 
 returns : tie.Need-returns
-returns c = λ mark given.
+returns c =
     let a = c .before .before .before .args in
-    rw (c .mark-late .ensures) (tick-does (now (a .mem)) (the-rest (a .clock) mark given) (c .before .before .wrapping-add-u32 .result) (rw add-one at (c .before .before .wrapping-add-u32 .ensures)))
+    let second = rw add-one at (c .before .before .wrapping-add-u32 .ensures) in
+    rw (c .mark-late .ensures) (record {
+      does = λ mark given. tick-does (now (a .mem)) (the-rest (a .clock) mark given) (c .before .before .wrapping-add-u32 .result) second;
+      second = second;
+    })
 
 pub tick-spec : {M : Type 1} → statement M
 tick-spec = tie.close (tie.spec wrapping-add-u32-requires mark-late-requires returns)

@@ -17,7 +17,7 @@ ticking-requires c κs = search needs
 
 returns : tie.Need-returns
 unfolding respond
-returns c = λ b s. plainly _ _ b s _ _ (record-of.tick) T (call.tick) _ _ _ _ (c .before .before .tick .ensures _ _) (λ st. refl) (neither-time _) (c .ticking .ensures)
+returns c = λ b s. plainly _ _ b s _ _ (record-of.tick) T (call.tick) _ _ _ _ (c .before .before .tick .ensures .does _ _) (λ st. refl) (neither-time _) (c .ticking .ensures)
 
 pub tick-spec : {M : Type 1} → statement M
 tick-spec = tie.close (tie.spec tick-requires ticking-requires returns)

@@ -1,5 +1,5 @@
 -- `pellacrosta::bytes_of` meets its contract. Assumes nothing.
-use Rattle.board.specs.Block.{bytes4}
+use Rattle.board.specs.Block.{bytes4, cdb-bytes}
 use borrow.Author.Needs.{needs}
 use Rattle.pellacrosta.proofs.bytes_of.Statement.{statement}
 use Rattle.pellacrosta.proofs.bytes_of.Tie as tie
@@ -41,7 +41,7 @@ cast-t37 : tie.Need-cast-t37
 cast-t37 c = search needs
 
 returns : tie.Need-returns
-unfolding bytes4
+unfolding bytes4 cdb-bytes
 returns c = search needs
 
 pub bytes-of-spec : {M : Type 1} → statement M

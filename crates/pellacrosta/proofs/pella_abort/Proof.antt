@@ -15,7 +15,7 @@ as-aborted-requires : tie.Need-as-aborted-requires
 as-aborted-requires c κs = search needs
 
 returns-2 : tie.Need-returns-2
-returns-2 c = works (c .before .before .before .if1 .left) (record { answer = c .before .abort .result; given = c .as-aborted .ensures; keeps = c .before .abort .ensures })
+returns-2 c = works (c .before .before .before .if1 .left) (record { answer = c .before .abort .result; formed = c .as-aborted .ensures; keeps = c .before .abort .ensures })
 
 pub pella-abort-spec : {M : Type 1} → statement M
 pella-abort-spec = tie.close (tie.spec returns abort-requires as-aborted-requires returns-2)

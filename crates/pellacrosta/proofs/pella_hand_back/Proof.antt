@@ -21,7 +21,7 @@ same-length : tie.Need-same-length
 same-length c = search needs
 
 returns-2 : tie.Need-returns-2
-returns-2 c = works (c .before .before .before .before .before .before .if1 .left) (record { answer = c .before .before .before .hand-back .result; given = c .as-handed .ensures; keeps = c .before .before .before .hand-back .ensures })
+returns-2 c = works (c .before .before .before .before .before .before .if1 .left) (record { answer = c .before .before .before .hand-back .result; formed = c .as-handed .ensures; keeps = c .before .before .before .hand-back .ensures })
 
 pub pella-hand-back-spec : {M : Type 1} → statement M
 pella-hand-back-spec =

@@ -17,7 +17,7 @@ as-first-requires : tie.Need-as-first-requires
 as-first-requires c κs = search needs
 
 returns-2 : tie.Need-returns-2
-returns-2 c = works (c .before .before .if1 .left) (record { answer = c .before .look .result; given = c .as-first .ensures; keeps = c .before .look .ensures })
+returns-2 c = works (c .before .before .if1 .left) (record { answer = c .before .look .result; formed = c .as-first .ensures; keeps = c .before .look .ensures })
 
 pub pella-look-spec : {M : Type 1} → statement M
 pella-look-spec =

@@ -28,7 +28,7 @@ returns-2 c =
     let d = c .before .before .before .before in
     works (d .before .before .before .if1 .left) (reports _ _ _ _ _ (sym (d .what .given .1) ∙ d .before .before .event-meant .ensures) (record {
       answer = c .before .report .result;
-      given = c .as-reported .ensures;
+      formed = c .as-reported .ensures;
       keeps = c .before .report .ensures;
     }))
 

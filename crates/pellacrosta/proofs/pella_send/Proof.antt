@@ -75,7 +75,7 @@ module _ {M : Type 1} (𝓤 : URA M) (H : Heap 𝓤) (A : Atoms 𝓤) (W : Given
       land ! (from ! (stop !)) (init ! 16 refl (LL.lawful U.the-type U′.the-laws 𝓤 H A W .typed c _ is′ .0)) $
       returns ! (look ! 16 refl) $ free-at ! 16 refl refl $ free-at ! 14 refl refl $ free-at ! 12 refl refl $ free-at ! 10 refl refl $ free-at ! 8 refl refl $ free-at ! 6 refl refl $ free-at ! 4 refl refl $ free-at ! 2 refl refl $ free0 ! $
       had-back ! x w (ws .0) (ws .1 .0) $
-      ends ! f.ended stayed (f.clauses 𝓤 H A mem run) y (LL.val U.the-type U′.the-laws c) c (ws .0, (tt, (ws .1 .0, tt))) (tt, (tt, (tt, tt))) _ (id⊢ 𝓤 _) (works (nltb→le words 838 enough) (record { answer = r; given = e′; keeps = e })) (LL.makes U.the-type U′.the-plain 𝓤 H A) is′))))))
+      ends ! f.ended stayed (f.clauses 𝓤 H A mem run) y (LL.val U.the-type U′.the-laws c) c (ws .0, (tt, (ws .1 .0, tt))) (tt, (tt, (tt, tt))) _ (id⊢ 𝓤 _) (works (nltb→le words 838 enough) (record { answer = r; formed = e′; keeps = e })) (LL.makes U.the-type U′.the-plain 𝓤 H A) is′))))))
 
 pub pella-send-spec : {M : Type 1} → stated.statement M
 unfolding code.routine

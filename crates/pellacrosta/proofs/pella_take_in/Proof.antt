@@ -21,7 +21,7 @@ same-length : tie.Need-same-length
 same-length c = search needs
 
 returns-2 : tie.Need-returns-2
-returns-2 c = works (c .before .before .before .before .before .before .before .if1 .left) (record { answer = c .before .before .before .take-in .result .answer; given = c .as-taken .ensures; keeps = c .before .before .before .take-in .ensures })
+returns-2 c = works (c .before .before .before .before .before .before .before .if1 .left) (record { answer = c .before .before .before .take-in .result .answer; formed = c .as-taken .ensures; keeps = c .before .before .before .take-in .ensures })
 
 pub pella-take-in-spec : {M : Type 1} → statement M
 pella-take-in-spec =

@@ -6,10 +6,11 @@ use mir.Syntax.{w32}
 use denote.Builtin.{u32}
 use denote.Array.{Array}
 use denote.Struct.Laws as LL
+use Rattle.desk.specs.Promise.{Ticks}
 use Rattle.wheel.specs.declared.Wheel.{Wheel}
 use Rattle.walk.proofs.Walk.{refl, ℕ, [], _∷_, List, URA, named, vint, vptr, SProp, ent, emp, id⊢, via, fst∗, GName, Lft, Share, ftrue, flft, Memory, Routine, Heap, Calls, Loops, WpFn, Atoms, Fun, Given, ‵, raw, _⊛_, _$_, _∵_, !, qed, move, split, fsplit, fjoin, use2, look, init, stop, hop, fld, from, load, addr, of-opd, and-then, no-more, land, assigns, returns, enter, params1, pass1, pass0, free0, whole, sub, look-in, store-in, FmC, owns, uint-tells, uint-makes, RefT, MutRef, ptr-vals, mut-tells, plain, nothing, onEntry, tripleOf, Triple, cited, Stays, stay-ref, gave-ref, walkOf, goes-ref, goes-gave-ref}
 use Rattle.walk.proofs.Walk.{rooms, var, token-back, two-tokens, free-at, mut-at, opens-record, closes-record, calls-of, first-and-plain, told, ends, proved, givenOf}
-use Rattle.wheel.proofs.Turns.{with-clock, Ticks-from, ticks}
+use Rattle.wheel.proofs.Turns.{with-clock, ticks}
 use Rattle.wheel.proofs.Wheel as T
 use Rattle.wheel.proofs.Wheel.Laws as T′
 use Rattle.desk.proofs.tick as g
@@ -46,7 +47,7 @@ module _ {M : Type 1} (𝓤 : URA M) (H : Heap 𝓤) (A : Atoms 𝓤) (W : Given
       assigns ! (of-opd ! (load ! (from ! (hop ! (look ! 8 refl) (fld ! refl (stop !)))) (look-in ! 0 (sub ! 0 refl (whole !))))) (from ! (stop !)) (init ! 2 refl (tt, record { fits = was .1 .1 .0 .1 })) $
       move ! (14 ∷ 15 ∷ []) $ use2 W (raw (tripleOf 𝓤 H A g.signature (g.spec 𝓤 H A mem run) .pre to-tick)) (first-and-plain 𝓤 H A κ q (MutRef (named 0) κ (Array u32 838) .own x (ptr-vals x)) (u32 ∷ []) (uint-makes 𝓤 H A W w32, tt) (h .clock, tt) _ ((refl, was .1 .1 .0 .1), tt)) $
       calls-of ! fm g.ended (g.clauses 𝓤 H A mem run) known to-tick (and-then ! (var ! 5 refl) (and-then ! (var ! 3 refl) (no-more !)))
-      (λ r ws. Ticks-from (x .now) (ws .0) (h .clock) r) (λ r ws. id⊢ 𝓤 _) (λ v r ws e. told ! u32 (vint w32) (uint-tells w32) r v (λ is.
+      (λ r ws. Ticks (x .now) (ws .0) (h .clock) r) (λ r ws. id⊢ 𝓤 _) (λ v r ws e. told ! u32 (vint w32) (uint-tells w32) r v (λ is.
       -- [mem's last words; its token; the struct's cell; the open borrow; _5; …]
       land ! (from ! (stop !)) (init ! 8 refl (tt, record { fits = is .1 })) $
       assigns ! (of-opd ! (var ! 8 refl)) (from ! (hop ! (look ! 10 refl) (fld ! refl (stop !)))) (store-in ! 2 (sub ! 0 refl (whole !)) (tt, record { fits = is .1 })) $
