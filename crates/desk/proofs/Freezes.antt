@@ -20,7 +20,7 @@ use Rattle.board.specs.Ending.{freeze-after}
 use Rattle.ends.specs.Closing.{bad}
 use Rattle.desk.specs.Words.{freeze-at, word-of, Freeze-set, no-such-unit, freeze-set, frozen-if}
 use Rattle.desk.specs.View.{request-at, active-at, finished-at, freeze-of, Rest, view}
-use Rattle.desk.specs.Promise.{Does}
+use Rattle.desk.specs.Promise.{Does, Freezes}
 use Rattle.desk.proofs.Read.{Same-place, same-request-at, same-active-at, same-finished-at}
 use Rattle.desk.proofs.Views.{board-same, does, freeze-on, freezes-changed, same-waiting}
 
@@ -135,9 +135,20 @@ module _ (change : Freeze → Freeze) (x : ℕ) (back : (n : ℕ) → change (fr
       (λ v. sym (ap (λ s. s .lent) e))
       (λ n y. let k : _≡_ {A = ℕ} 0 1 = cc in absurd (omega arith))
 
-  pub freezing-does : (m m' : List ℕ) (r : Rest) (f : Freezing) → Freeze-set m m' (u .0) x f → Does m m' r r c (freezing-says f) []
+  freezing-does : (m m' : List ℕ) (r : Rest) (f : Freezing) → Freeze-set m m' (u .0) x f → Does m m' r r c (freezing-says f) []
   freezing-does m m' r f (no-such-unit h e) = subst (λ n. Does m n r r c (refused 103) []) (sym e) (not-a-unit m r h)
   freezing-does m m' r f (freeze-set h e) = subst (λ n. Does m n r r c (before (if freeze-at m (u .0) =? 0 then 0 else 1)) []) (sym e) (freeze-changed m r h)
+
+  freezes-no-unit : (m m' : List ℕ) (f : Freezing) → Freeze-set m m' (u .0) x f → units ≤ u .0 → freezing-says f ≡ refused 103
+  freezes-no-unit m m' f (no-such-unit h e) k = refl
+  freezes-no-unit m m' f (freeze-set h e) k = absurd (omega (arith, h, k))
+
+  refused-only-then : (m m' : List ℕ) (f : Freezing) → Freeze-set m m' (u .0) x f → (n : ℕ) → freezing-says f ≡ refused n → units ≤ u .0
+  refused-only-then m m' f (no-such-unit h e) n z = h
+  refused-only-then m m' f (freeze-set h e) n z = let y : _≡_ {A = ℕ} 0 1 = cc in absurd (omega arith)
+
+  pub freezes : (m m' : List ℕ) (f : Freezing) → Freeze-set m m' (u .0) x f → Freezes m m' u c (freezing-says f)
+  freezes m m' f s = record { does = λ r. freezing-does m m' r f s; no-unit = freezes-no-unit m m' f s; only-then = refused-only-then m m' f s }
 
 pub freeze-is : (u : Unit) (b : Board) → step b (freeze u) ≡ freezing one-freeze b u
 unfolding step

@@ -1,15 +1,15 @@
 -- What each call promises. Assumes nothing.
-use Prim.Native.Nat.{ℕ, suc, _%_, _^_}
+use Prim.Native.Nat.{ℕ, suc, _≤_, _%_, _^_}
 use mathlib.Core.Path.{_≡_}
 use mathlib.Core.List.{List, []}
 use lib.ListN.{length}
 use Rattle.board.specs.declared.Ticket.{Ticket}
 use Rattle.board.specs.declared.Unit.{Unit}
 use Rattle.board.specs.declared.Told.{Told}
-use Rattle.board.specs.Answers.{Answer, refused, taken, handed, time}
+use Rattle.board.specs.Answers.{Answer, refused, taken, nothing, handed, time}
 use Rattle.board.specs.Block.{with-status, with-told}
-use Rattle.board.specs.Board.{the-unit, fresh}
-use Rattle.board.specs.Calls.{Call, take-in, tick, hand-back, step}
+use Rattle.board.specs.Board.{the-unit, units, fresh}
+use Rattle.board.specs.Calls.{Call, take-in, send, tick, hand-back, step}
 use Rattle.desk.specs.View.{Rest, the-rest, view, Valid}
 
 -- From the words m and the rest r to m' and r', by this call, with this answer, the lent block's bytes being s' then. A valid memory
@@ -39,6 +39,18 @@ pub record Takes-in (m m' s s' : List ℕ) (given given' : ℕ) (a : Answer) : T
   pub byte-7-clear : (t : Ticket) → a ≡ taken t → s' ≡ with-status 0x00 s
   pub next-ticket : (t : Ticket) → a ≡ taken t → (t .0 ≡ suc given) × (given' ≡ suc given)
   pub size : length s' ≡ length s
+
+-- A freeze or a release of unit u. And of EVERY memory: it is refused with 103 exactly where the unit is above 63.
+pub record Freezes (m m' : List ℕ) (u : Unit) (c : Call) (a : Answer) : Type 0 where
+  pub does : (r : Rest) → Does m m' r r c a []
+  pub no-unit : units ≤ u .0 → a ≡ refused 103
+  pub only-then : (n : ℕ) → a ≡ refused n → units ≤ u .0
+
+-- A send, from this clock and this mark to mark': `step`, whatever the last ticket given. And of EVERY memory: "nothing" leaves every
+-- word as it was.
+pub record Sends (m m' : List ℕ) (clock : ℕ) (mark mark' : Unit) (a : Answer) : Type 0 where
+  pub does : (given : ℕ) → Does m m' (the-rest clock mark given) (the-rest clock mark' given) send a []
+  pub idle : (n : ℕ) → a ≡ nothing n → m' ≡ m
 
 -- A tick, from this clock to the clock r: `step`, whatever the mark and the last ticket given. And of EVERY memory: r is the next second.
 pub record Ticks (m m' : List ℕ) (clock r : ℕ) : Type 0 where

@@ -39,7 +39,7 @@ ghost use Rattle.desk.specs.View.{request-at, active-at, finished-at, Re
 ghost use Rattle.desk.specs.Begins.{cleared};
 ghost use Rattle.desk.specs.Ticking.{marked, marked-from};
 ghost use Rattle.desk.specs.Resets.{reset-told, reset-words, smallest-spot, Smallest-ended};
-ghost use Rattle.desk.specs.Promise.{Does, Hands-back, Takes-in, Ticks, Fresh};
+ghost use Rattle.desk.specs.Promise.{Does, Freezes, Hands-back, Sends, Takes-in, Ticks, Fresh};
 
 // A word as an index.
 fn wide(x: u32) -> usize
@@ -261,14 +261,14 @@ fn set_freeze(mem: &mut [u32; WORDS], u: Unit, x: u32) -> Freezing
 
 // Freeze a unit.
 pub fn freeze(mem: &mut [u32; WORDS], u: Unit) -> Freezing
-    ensures { λ r. ⌜ ((rest : Rest) → Does (now (mem .entry)) (now (mem .exit)) rest rest (freeze u) (freezing-says r) []) ⌝ }
+    ensures { λ r. ⌜ Freezes (now (mem .entry)) (now (mem .exit)) u (freeze u) (freezing-says r) ⌝ }
 {
     set_freeze(mem, u, 1)
 }
 
 // Release a unit.
 pub fn release(mem: &mut [u32; WORDS], u: Unit) -> Freezing
-    ensures { λ r. ⌜ ((rest : Rest) → Does (now (mem .entry)) (now (mem .exit)) rest rest (release u) (freezing-says r) []) ⌝ }
+    ensures { λ r. ⌜ Freezes (now (mem .entry)) (now (mem .exit)) u (release u) (freezing-says r) ⌝ }
 {
     set_freeze(mem, u, 0)
 }
@@ -355,7 +355,7 @@ pub struct Went {
 
 // Send: the next request that may go becomes active, or "nothing".
 pub fn send(mem: &mut [u32; WORDS], clock: u32, mark: Unit) -> Went
-    ensures { λ r. ⌜ ((given : ℕ) → Does (now (mem .entry)) (now (mem .exit)) (the-rest clock mark given) (the-rest clock (r .mark) given) send (sending-says (r .answer)) []) ⌝ }
+    ensures { λ r. ⌜ Sends (now (mem .entry)) (now (mem .exit)) clock mark (r .mark) (sending-says (r .answer)) ⌝ }
 {
     if 8 <= rows::length_of(mem, 2) {
         return Went {

@@ -21,7 +21,7 @@ ghost use Rattle.board.specs.Board.{the-ticket, the-unit};
 ghost use Rattle.board.specs.Plain.{if_then_else_, _=?_};
 ghost use Rattle.board.specs.Block.{cdb-bytes};
 ghost use Rattle.board.specs.Calls.{abort, freeze, look, release, reset};
-ghost use Rattle.desk.specs.Promise.{Fresh, Hands-back, Takes-in};
+ghost use Rattle.desk.specs.Promise.{Freezes, Fresh, Hands-back, Takes-in};
 ghost use Rattle.wheel.specs.Turned.{Sends, Ticks};
 ghost use Rattle.pellacrosta.specs.Meaning.{complete-meant, event-meant, sense-meant};
 ghost use Rattle.pellacrosta.specs.Forms.{as-aborted, as-first, as-frozen, as-handed, as-reported, as-sent, as-taken, not-found, not-handed, not-sent, not-taken};
@@ -399,7 +399,7 @@ pub extern "C" fn pella_abort(mem: &mut [u32; WORDS], words: usize, ticket: u32)
 #[no_mangle]
 pub extern "C" fn pella_freeze(mem: &mut [u32; WORDS], words: usize, unit: u32) -> u32
     ensures { λ r. ⌜ Exported words ((r ≡ 201) × (now (mem .exit) ≡ now (mem .entry)))
-        (Given as-frozen r (λ a. Alone (now (mem .entry)) (now (mem .exit)) (freeze (the-unit unit)) (freezing-says a))) ⌝ }
+        (Given as-frozen r (λ a. Freezes (now (mem .entry)) (now (mem .exit)) (the-unit unit) (freeze (the-unit unit)) (freezing-says a))) ⌝ }
 {
     if words < WORDS {
         return 201;
@@ -411,7 +411,7 @@ pub extern "C" fn pella_freeze(mem: &mut [u32; WORDS], words: usize, unit: u32) 
 #[no_mangle]
 pub extern "C" fn pella_release(mem: &mut [u32; WORDS], words: usize, unit: u32) -> u32
     ensures { λ r. ⌜ Exported words ((r ≡ 201) × (now (mem .exit) ≡ now (mem .entry)))
-        (Given as-frozen r (λ a. Alone (now (mem .entry)) (now (mem .exit)) (release (the-unit unit)) (freezing-says a))) ⌝ }
+        (Given as-frozen r (λ a. Freezes (now (mem .entry)) (now (mem .exit)) (the-unit unit) (release (the-unit unit)) (freezing-says a))) ⌝ }
 {
     if words < WORDS {
         return 201;

@@ -60,5 +60,6 @@ pub sends : (m m' : List ℕ) (w : Wheel) (a : Sending) (n : ℕ) → Sends-from
 sends m m' w a n d e = record {
   clock = refl;
   mark = e;
-  does = λ given. subst (λ (k : ℕ). Does m m' (rest-of w given) (the-rest (w .clock) (the-unit k) given) send (sending-says a) []) (sym e) (d given);
+  idle = d .idle;
+  does = λ given. subst (λ (k : ℕ). Does m m' (rest-of w given) (the-rest (w .clock) (the-unit k) given) send (sending-says a) []) (sym e) (d .does given);
 }

@@ -1,6 +1,7 @@
 -- `desk::send` meets its contract. Assumes nothing.
 use native.Mathlib.Omega.{arith}
-use mathlib.Core.Path.{sym, _∙_}
+use Prim.Native.Nat.{ℕ}
+use mathlib.Core.Path.{_≡_, refl, sym, _∙_}
 use denote.Ref.{now}
 use Rattle.desk.specs.View.{the-rest}
 use Rattle.desk.proofs.Sends.{send-full, send-none, send-some, found-unit}
@@ -12,7 +13,7 @@ length-of-requires : tie.Need-length-of-requires
 length-of-requires c κs = search needs
 
 returns : tie.Need-returns
-returns c = λ given. send-full (now (c .before .before .before .args .mem)) (the-rest (c .before .before .before .args .clock) (c .before .before .before .args .mark) given) (omega (arith, c .before .length-of .ensures, c .if1 .taken))
+returns c = record { does = λ given. send-full (now (c .before .before .before .args .mem)) (the-rest (c .before .before .before .args .clock) (c .before .before .before .args .mark) given) (omega (arith, c .before .length-of .ensures, c .if1 .taken)); idle = λ n e. refl }
 
 rotate-requires : tie.Need-rotate-requires
 rotate-requires c κs = search needs
@@ -32,13 +33,15 @@ launch-requires c κs =
     rw (c .wide8 .ensures) (f .0, f .1)
 
 returns-2 : tie.Need-returns-2
-returns-2 c = λ given.
-    send-none (now (c .before .before .before .before .before .before .before .args .mem)) (the-rest (c .before .before .before .before .before .before .before .args .clock) (c .before .before .before .before .before .before .before .args .mark) given) (omega (arith, c .before .before .before .before .before .length-of .ensures, c .before .before .before .before .if1 .left)) (sym (c .before .before .rotate .ensures) ∙ c .enum-told .given .1)
+returns-2 c = record {
+  does = λ given. send-none (now (c .before .before .before .before .before .before .before .args .mem)) (the-rest (c .before .before .before .before .before .before .before .args .clock) (c .before .before .before .before .before .before .before .args .mark) given) (omega (arith, c .before .before .before .before .before .length-of .ensures, c .before .before .before .before .if1 .left)) (sym (c .before .before .rotate .ensures) ∙ c .enum-told .given .1);
+  idle = λ n e. refl;
+}
 
 returns-3 : tie.Need-returns-3
-returns-3 c = λ given.
+returns-3 c =
     rw (c .before .before .launch .ensures .0, c .before .before .launch .ensures .1, c .before .before .before .wide8 .ensures)
-    (send-some (now (c .before .before .before .before .before .before .before .before .before .before .before .before .before .args .mem)) (the-rest (c .before .before .before .before .before .before .before .before .before .before .before .before .before .args .clock) (c .before .before .before .before .before .before .before .before .before .before .before .before .before .args .mark) given) (c .before .before .before .before .before .before .found .given .0 .0) (c .before .before .before .before .before .before .found .given .0 .1 .0) (omega (arith, c .before .before .before .before .before .before .before .before .before .before .before .length-of .ensures, c .before .before .before .before .before .before .before .before .before .before .if1 .left)) (sym (c .before .before .before .before .before .before .before .before .rotate .ensures) ∙ c .before .before .before .before .before .before .found .given .1))
+    (record { does = λ given. send-some (now (c .before .before .before .before .before .before .before .before .before .before .before .before .before .args .mem)) (the-rest (c .before .before .before .before .before .before .before .before .before .before .before .before .before .args .clock) (c .before .before .before .before .before .before .before .before .before .before .before .before .before .args .mark) given) (c .before .before .before .before .before .before .found .given .0 .0) (c .before .before .before .before .before .before .found .given .0 .1 .0) (omega (arith, c .before .before .before .before .before .before .before .before .before .before .before .length-of .ensures, c .before .before .before .before .before .before .before .before .before .before .if1 .left)) (sym (c .before .before .before .before .before .before .before .before .rotate .ensures) ∙ c .before .before .before .before .before .before .found .given .1); idle = λ n e. let y : _≡_ {A = ℕ} 0 1 = cc in absurd (omega arith) })
 
 pub send-spec : {M : Type 1} → statement M
 send-spec =

@@ -54,7 +54,7 @@ returns c =
     let took = taken .before .before .before in
     let began = took .before .before .before in
     let t =
-    told (began .fresh .ensures) (took .take-in .ensures) (went .send .ensures) (reported .report .ensures) (looked .look .ensures) (back .hand-back .ensures)
+    told (began .fresh .ensures) (took .take-in .ensures) (went .send .ensures .does) (reported .report .ensures) (looked .look .ensures) (back .hand-back .ensures)
     (began .before .before .before .pre)
     (ap (λ x. x .ticket) (sent .see-sending .ensures)) in (
       (λ i. record {

@@ -27,7 +27,7 @@ returns c =
     let n = c .before .before .before .before .before .args .n in
     let u = c .before .before .before .unit-numbered .result in
     λ b s. plainly _ _ b s _ _ (record-of.freeze n) F (call.freeze (the-unit n)) _ _ _ _
-    (does-as (call.freeze u) (call.freeze (the-unit n)) (freeze-numbered u n (c .before .before .before .unit-numbered .ensures)) (c .before .before .freeze .ensures _)) (λ st. refl) (neither-freezing (c .before .before .freeze .result)) (c .freezing .ensures)
+    (does-as (call.freeze u) (call.freeze (the-unit n)) (freeze-numbered u n (c .before .before .before .unit-numbered .ensures)) (c .before .before .freeze .ensures .does _)) (λ st. refl) (neither-freezing (c .before .before .freeze .result)) (c .freezing .ensures)
 
 pub freeze-spec : {M : Type 1} → statement M
 freeze-spec = tie.close (tie.spec unit-numbered-requires freeze-requires freezing-requires returns)

@@ -27,7 +27,7 @@ returns c =
     let n = c .before .before .before .before .before .args .n in
     let u = c .before .before .before .unit-numbered .result in
     λ b s. plainly _ _ b s _ _ (record-of.release n) R (call.release (the-unit n)) _ _ _ _
-    (does-as (call.release u) (call.release (the-unit n)) (release-numbered u n (c .before .before .before .unit-numbered .ensures)) (c .before .before .release .ensures _)) (λ st. refl) (neither-freezing (c .before .before .release .result)) (c .releasing .ensures)
+    (does-as (call.release u) (call.release (the-unit n)) (release-numbered u n (c .before .before .before .unit-numbered .ensures)) (c .before .before .release .ensures .does _)) (λ st. refl) (neither-freezing (c .before .before .release .result)) (c .releasing .ensures)
 
 pub release-spec : {M : Type 1} → statement M
 release-spec = tie.close (tie.spec unit-numbered-requires release-requires releasing-requires returns)

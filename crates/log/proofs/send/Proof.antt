@@ -17,7 +17,7 @@ sending-requires c κs = search needs
 
 returns : tie.Need-returns
 unfolding respond
-returns c = λ b s. plainly _ _ b s _ _ (record-of.send) N (call.send) _ _ _ _ (c .before .before .before .send .ensures _) (λ st. refl) (neither-sending (c .before .before .before .send .result .answer)) (c .sending .ensures)
+returns c = λ b s. plainly _ _ b s _ _ (record-of.send) N (call.send) _ _ _ _ (c .before .before .before .send .ensures .does _) (λ st. refl) (neither-sending (c .before .before .before .send .result .answer)) (c .sending .ensures)
 
 pub send-spec : {M : Type 1} → statement M
 send-spec = tie.close (tie.spec send-requires sending-requires returns)

@@ -1,10 +1,7 @@
 -- `pellacrosta::pella_freeze` meets its contract. Assumes nothing.
 use mathlib.Core.Path.{refl}
-use Rattle.board.specs.Board.{the-unit}
-use Rattle.board.specs.Calls.{freeze}
 use Rattle.board.proofs.Numbers.{freeze-numbered}
-use Rattle.desk.proofs.Views.{does-as}
-use Rattle.pellacrosta.proofs.Exports.{refuses, works}
+use Rattle.pellacrosta.proofs.Exports.{refuses, works, freezes-numbered}
 use borrow.Author.Needs.{needs}
 use Rattle.pellacrosta.proofs.pella_freeze.Statement.{statement}
 use Rattle.pellacrosta.proofs.pella_freeze.Tie as tie
@@ -25,7 +22,7 @@ returns-2 : tie.Need-returns-2
 returns-2 c = works (c .before .before .before .before .if1 .left) (record {
   answer = c .before .freeze .result;
   formed = c .as-frozen .ensures;
-  keeps = λ rest. does-as (freeze _) (freeze (the-unit _)) (freeze-numbered _ _ (c .before .before .unit-numbered .ensures)) (c .before .freeze .ensures rest);
+  keeps = freezes-numbered _ _ _ _ _ (c .before .before .unit-numbered .ensures) (freeze-numbered _ _ (c .before .before .unit-numbered .ensures)) (c .before .freeze .ensures);
 })
 
 pub pella-freeze-spec : {M : Type 1} → statement M

@@ -1,10 +1,7 @@
 -- `pellacrosta::pella_release` meets its contract. Assumes nothing.
 use mathlib.Core.Path.{refl}
-use Rattle.board.specs.Board.{the-unit}
-use Rattle.board.specs.Calls.{release}
 use Rattle.board.proofs.Numbers.{release-numbered}
-use Rattle.desk.proofs.Views.{does-as}
-use Rattle.pellacrosta.proofs.Exports.{refuses, works}
+use Rattle.pellacrosta.proofs.Exports.{refuses, works, freezes-numbered}
 use borrow.Author.Needs.{needs}
 use Rattle.pellacrosta.proofs.pella_release.Statement.{statement}
 use Rattle.pellacrosta.proofs.pella_release.Tie as tie
@@ -25,7 +22,7 @@ returns-2 : tie.Need-returns-2
 returns-2 c = works (c .before .before .before .before .if1 .left) (record {
   answer = c .before .release .result;
   formed = c .as-frozen .ensures;
-  keeps = λ rest. does-as (release _) (release (the-unit _)) (release-numbered _ _ (c .before .before .unit-numbered .ensures)) (c .before .release .ensures rest);
+  keeps = freezes-numbered _ _ _ _ _ (c .before .before .unit-numbered .ensures) (release-numbered _ _ (c .before .before .unit-numbered .ensures)) (c .before .release .ensures);
 })
 
 pub pella-release-spec : {M : Type 1} → statement M

@@ -9,9 +9,9 @@ send-requires : tie.Need-send-requires
 send-requires c κs = search needs
 
 returns : tie.Need-returns
-returns c = λ given.
+returns c =
     let a = c .before .before .args in
-    marked (now (a .mem)) _ (a .clock) (a .mark) given _ _ (c .send .ensures given)
+    record { does = λ given. marked (now (a .mem)) _ (a .clock) (a .mark) given _ _ (c .send .ensures .does given); idle = c .send .ensures .idle }
 
 pub send-from-spec : {M : Type 1} → statement M
 send-from-spec = tie.close (tie.spec send-requires returns)
