@@ -6,7 +6,20 @@
 #define CALLS_H
 
 #include <pellacrosta.h>
+#include <stdio.h>
+#include <stdlib.h>
 #include <string.h>
+
+/* A number of the command line. One that is none ends the program, with how it is to be called. */
+static inline uint64_t number_of(const char *text, const char *usage) {
+    char *end;
+    uint64_t number = strtoull(text, &end, 10);
+    if (*text < '0' || *text > '9' || *end != 0) {
+        fputs(usage, stderr);
+        exit(2);
+    }
+    return number;
+}
 
 /* ---- chance (splitmix64). No expression asks it twice but one after the other, so that a seed means the same to every compiler. */
 

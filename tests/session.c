@@ -5,8 +5,6 @@
  * the header's flags, and every byte of a block.
  */
 #include "calls.h"
-#include <stdio.h>
-#include <stdlib.h>
 
 #define LONGEST 199 /* the longest block that a line of the log holds */
 
@@ -187,16 +185,6 @@ static void make_call(struct call *call) {
     }
 }
 
-static uint64_t number_of(const char *text) {
-    char *end;
-    uint64_t number = strtoull(text, &end, 10);
-    if (*text < '0' || *text > '9' || *end != 0) {
-        fputs(usage, stderr);
-        exit(2);
-    }
-    return number;
-}
-
 static FILE *open_file(const char *name) {
     FILE *file = fopen(name, "w");
     if (file == NULL) {
@@ -210,9 +198,9 @@ int main(int argc, char **argv) {
     int i = 1;
     for (; i + 1 < argc && argv[i][0] == '-'; i += 2) {
         if (strcmp(argv[i], "--seed") == 0)
-            seed = number_of(argv[i + 1]);
+            seed = number_of(argv[i + 1], usage);
         else if (strcmp(argv[i], "--calls") == 0)
-            calls = number_of(argv[i + 1]);
+            calls = number_of(argv[i + 1], usage);
         else
             break;
     }

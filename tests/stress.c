@@ -12,8 +12,6 @@
 #define _DEFAULT_SOURCE
 #include "calls.h"
 #include <signal.h>
-#include <stdio.h>
-#include <stdlib.h>
 #include <sys/mman.h>
 #include <sys/time.h>
 #include <unistd.h>
@@ -820,23 +818,13 @@ static void call_wild(struct state *wild, const struct state *desk) {
     try_call(&call, wild, false);
 }
 
-static uint64_t number_of(const char *text) {
-    char *end;
-    uint64_t number = strtoull(text, &end, 10);
-    if (*text < '0' || *text > '9' || *end != 0) {
-        fputs(usage, stderr);
-        exit(2);
-    }
-    return number;
-}
-
 int main(int argc, char **argv) {
     static struct state desk, wild;
     for (int i = 1; i < argc; i += 2) {
         if (i + 1 < argc && strcmp(argv[i], "--seed") == 0)
-            seed = number_of(argv[i + 1]);
+            seed = number_of(argv[i + 1], usage);
         else if (i + 1 < argc && strcmp(argv[i], "--calls") == 0)
-            calls = number_of(argv[i + 1]);
+            calls = number_of(argv[i + 1], usage);
         else {
             fputs(usage, stderr);
             return 2;
