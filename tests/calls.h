@@ -149,6 +149,7 @@ struct request {
     uint32_t ticket;
     uint32_t start;              /* the clock when it was sent */
     uint32_t moved, scsi_status; /* as reported; 0 if nothing was */
+    uint32_t base;               /* the base status of its end, if it wasn't overdue; 0 for a check condition */
     size_t length;
     uint8_t block[BLOCK_MOST];
 };
@@ -194,6 +195,7 @@ static inline bool enter(uint32_t ticket, const uint8_t *block, size_t length) {
     request->ticket = ticket;
     request->moved = 0;
     request->scsi_status = 0;
+    request->base = 0;
     request->length = length;
     memcpy(request->block, block, length);
     return true;
@@ -205,17 +207,43 @@ static inline void enter_sent(struct request *request, uint32_t clock) {
     request->start = clock;
 }
 
+/* The base status of an event's end, if the request isn't overdue; 0 for a check condition, where it depends on the sense. */
+static inline uint32_t base_of(const struct request *request, uint32_t event, uint32_t scsi_status, uint32_t moved) {
+    if (event == PELLA_EVENT_ABORT_DONE)
+        return PELLA_STATUS_ABORTED;
+    if (event != PELLA_EVENT_COMPLETE)
+        return event;
+    if (moved > data_length_of(request->block))
+        return PELLA_STATUS_OVERRUN;
+    switch (scsi_status) {
+    case 0x00: case 0x04: return PELLA_STATUS_DONE;
+    case 0x02: return 0;
+    default: return PELLA_STATUS_WITH_ERROR;
+    }
+}
+
 /* Enters an event that was accepted. */
 static inline void enter_end(struct request *request, uint32_t event, uint32_t scsi_status, uint32_t moved) {
     request->stage = FINISHED;
     request->moved = moved;
     request->scsi_status = event == PELLA_EVENT_COMPLETE ? scsi_status : 0;
+    request->base = base_of(request, event, scsi_status, moved);
+}
+
+/* Enters an abort that was accepted: a waiting request ends at once. */
+static inline void enter_abort(struct request *request) {
+    if (request->stage != WAITING)
+        return;
+    request->stage = FINISHED;
+    request->base = PELLA_STATUS_ABORTED;
 }
 
 static inline void enter_reset(void) {
     for (int i = 0; i < PELLA_MOST_LIVE; i++)
-        if (books[i].stage == ACTIVE)
+        if (books[i].stage == ACTIVE) {
             books[i].stage = FINISHED;
+            books[i].base = PELLA_STATUS_BUS_RESET;
+        }
 }
 
 /* ---- calls */

@@ -106,14 +106,17 @@ static void abort_one(const struct call *call) {
     uint32_t refused = pella_abort(memory, PELLA_WORDS, call->ticket);
     answer_number('A', refused);
     struct request *request = request_of(call->ticket);
-    if (refused == 0 && request != NULL && request->stage == WAITING)
-        request->stage = FINISHED;
+    if (refused == 0 && request != NULL)
+        enter_abort(request);
 }
 
 /* What a block is told, against those of its fields that no record of the log has by name. */
 static void compare_fields(const struct request *request, const struct pella_handed *handed) {
     uint32_t base = handed->status & PELLA_STATUS_BASE, asked = request->block[PELLA_AT_SENSE_LENGTH];
     uint32_t timeout = get(request->block + PELLA_AT_TIMEOUT, 4);
+    if (base != PELLA_STATUS_TIMED_OUT)
+        must(request->base == 0 ? base == PELLA_STATUS_WITH_ERROR || base == PELLA_STATUS_SENSE_UNREAD : base == request->base,
+             "hand_back: the base status is not that of what was reported");
     if (is_flagged(request, PELLA_FLAG_AUTOSENSE_DISABLED))
         must(!(handed->status & PELLA_STATUS_SENSED) && handed->autosense_residual == 0 && base != PELLA_STATUS_SENSE_UNREAD,
              "hand_back: sense was looked at, though the block disables it");

@@ -360,10 +360,12 @@ static const char *const sight_names[SIGHTS] = {
     [HANDED_WHOLE] = "a hand-back with residual 0",
     [HANDED_OVER] = "a hand-back with bytes too many",
 };
-static const uint8_t refusals[] = { PELLA_REFUSED_UNABLE_TO_ABORT, PELLA_REFUSED_CAM_BUSY, PELLA_REFUSED_INVALID_REQUEST, PELLA_REFUSED_INVALID_PATH,
-                                    PELLA_REFUSED_LENGTH_INADEQUATE, PELLA_REFUSED_CANNOT_PROVIDE, PELLA_REFUSED_NOT_ACTIVE, PELLA_REFUSED_IMPLAUSIBLE,
-                                    PELLA_REFUSED_NO_SUCH_UNIT, PELLA_REFUSED_NONE_FINISHED, PELLA_REFUSED_NOT_ITS_BLOCK, PELLA_REFUSED_TOO_FEW_WORDS,
-                                    PELLA_REFUSED_NO_SUCH_EVENT, PELLA_REFUSED_NO_SUCH_STATUS, PELLA_REFUSED_NO_SUCH_SENSE };
+static const uint8_t refusals[] = {
+    PELLA_REFUSED_UNABLE_TO_ABORT, PELLA_REFUSED_CAM_BUSY, PELLA_REFUSED_INVALID_REQUEST, PELLA_REFUSED_INVALID_PATH,
+    PELLA_REFUSED_LENGTH_INADEQUATE, PELLA_REFUSED_CANNOT_PROVIDE, PELLA_REFUSED_NOT_ACTIVE, PELLA_REFUSED_IMPLAUSIBLE,
+    PELLA_REFUSED_NO_SUCH_UNIT, PELLA_REFUSED_NONE_FINISHED, PELLA_REFUSED_NOT_ITS_BLOCK, PELLA_REFUSED_TOO_FEW_WORDS,
+    PELLA_REFUSED_NO_SUCH_EVENT, PELLA_REFUSED_NO_SUCH_STATUS, PELLA_REFUSED_NO_SUCH_SENSE,
+};
 /* The status bytes that can occur on a desk, and no others: docs/REPLAY.md. */
 static const uint8_t statuses[] = { 0x01, 0x41, 0x02, 0x42, 0x44, 0xC4, 0x4A, 0x4B, 0xCB, 0x4E, 0x4F, 0x50, 0x52, 0xD2, 0x53, 0x54, 0x59 };
 
@@ -484,7 +486,8 @@ static void check_taken(const struct call *call, const struct state *before, con
     if (own != 0)
         must(refused == own, "take_in: another number than the block's fields call for");
     else
-        must(refused == 0 || refused == PELLA_REFUSED_CAM_BUSY || refused == PELLA_REFUSED_INVALID_REQUEST, "take_in: refused a good block");
+        must(refused == 0 || refused == PELLA_REFUSED_CAM_BUSY || refused == PELLA_REFUSED_INVALID_REQUEST,
+             "take_in: refused a good block");
     if (refused != 0)
         return;
     must(before->last_ticket != UINT32_MAX, "take_in: accepted after the last ticket");
@@ -512,9 +515,11 @@ static void check_reported(const struct call *call, const struct answer *answer)
     if (own != 0)
         must(refused == own, "report: 202 to 204 not as the numbers call for");
     else if (call->moved > 0x7FFFFFFF)
-        must(refused == PELLA_REFUSED_NOT_ACTIVE || refused == PELLA_REFUSED_IMPLAUSIBLE, "report: neither 101 nor 102, and too many bytes moved");
+        must(refused == PELLA_REFUSED_NOT_ACTIVE || refused == PELLA_REFUSED_IMPLAUSIBLE,
+             "report: neither 101 nor 102, and too many bytes moved");
     else
-        must(refused == 0 || refused == PELLA_REFUSED_NOT_ACTIVE || refused == PELLA_REFUSED_IMPLAUSIBLE, "report: an answer that it hasn't");
+        must(refused == 0 || refused == PELLA_REFUSED_NOT_ACTIVE || refused == PELLA_REFUSED_IMPLAUSIBLE,
+             "report: an answer that it hasn't");
 }
 
 /* Freezes or releases a unit in a copy of the words: 1 if it was frozen before. */
@@ -665,14 +670,15 @@ static void check_desk(const struct call *call, const struct state *before, cons
     case SEND: check_desk_sent(before, answer); break;
     case REPORT:
         if (refusal_of_event(call) == 0)
-            must((refused == PELLA_REFUSED_NOT_ACTIVE) == (request == NULL || request->stage != ACTIVE), "report on the desk: 101 is wrong");
+            must((refused == PELLA_REFUSED_NOT_ACTIVE) == (request == NULL || request->stage != ACTIVE),
+                 "report on the desk: 101 is wrong");
         if (refused == 0)
             enter_end(request, call->event, call->scsi_status, call->moved);
         break;
     case ABORT:
         must((refused != 0) == (request == NULL || request->stage == FINISHED), "abort on the desk: 03h is wrong");
-        if (refused == 0 && request->stage == WAITING)
-            request->stage = FINISHED;
+        if (refused == 0)
+            enter_abort(request);
         break;
     case RESET: enter_reset(); break;
     case LOOK: check_desk_found(answer); break;
