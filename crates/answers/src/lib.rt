@@ -1,5 +1,7 @@
 // The line that answers a record of the replay's log: numbers, fields, lines, then one function for each letter. Each writes
 // at the start of a lent array of 64 bytes, more than the longest line has, and answers how many bytes it wrote.
+#![tactic(auto)]
+
 ghost use Rattle.std.specs.Prelude.{◌≡◌, [], ◌∷◌, ◌+◌, ◌≤◌, ◌<◌, pos, nat_abs};
 ghost use Rattle.std.proofs.lemmas.List.Edits.{sets};
 ghost use Rattle.std.specs.Int.Signed.{lt_z};

@@ -1,13 +1,15 @@
 // The bench cases of document 01 that no replay reaches, and what else only a caller of the desk sees. Each case runs on a fresh desk,
 // prints one line with what it saw, and answers whether that is what document 01 says; the last line counts them. In this order: the
 // answers' numbers, printing, blocks and calls, the cases, the program.
+#![tactic(auto)]
+
 use board::{Event, HandingBack, Looking, Reporting, Sending, Sense, TakingIn, Ticket, Unit};
 use rows::WORDS;
 
 // ---- the answers' numbers
 
 // What taking in says: a ticket, or 0 and the refusal.
-#[derive(Drop)]
+#[derive(Clone, Copy)]
 struct Entry {
     ticket: u32,
     number: u8,
@@ -27,7 +29,7 @@ fn entry_of(a: TakingIn) -> Entry {
 }
 
 // What a hand_back says: 0 and the status byte, or the refusal.
-#[derive(Drop)]
+#[derive(Clone, Copy)]
 struct Back {
     number: u8,
     status: u8,
@@ -51,7 +53,7 @@ fn back_of(a: HandingBack) -> Back {
 }
 
 // What a look sees; ticket 0 if the line is empty.
-#[derive(Drop)]
+#[derive(Clone, Copy)]
 struct Seen {
     ticket: u32,
     address: u32,

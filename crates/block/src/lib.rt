@@ -1,5 +1,7 @@
 // A lent control block: what its bytes say, the checks on the block alone (1 to 8), and what is written to it. A block is
 // any number of bytes; none past them is read or written.
+#![tactic(auto)]
+
 ghost use Rattle.std.specs.Prelude.{◌≡◌, ◌+◌, ◌<◌, ◌≤◌, ◌/◌, ◌%◌, length};
 ghost use Rattle.board.specs.Plain.{◌=?◌, if◌then◌else◌, first_that_applies};
 ghost use Rattle.board.specs.Block.{byte, two, four, word, signed, whole_block, fields, request, with_status, with_told};
@@ -70,7 +72,7 @@ pub fn signed_of(x: u32) -> i32
 // ---- the checks
 
 // What a table of checks says: the refusal of the first that applies, or to accept.
-#[derive(Drop)]
+#[derive(Clone, Copy)]
 enum Table {
     Refuse(Refusal),
     Accept,
@@ -165,7 +167,7 @@ fn request_of(block: &[u8], ticket: Ticket) -> Request
 
 // What the checks on the block alone make of it: the refusal of the first that applies, or the request that it asks for
 // and whether that goes to the front.
-#[derive(Drop)]
+#[derive(Clone, Copy)]
 pub enum Examined {
     Refused(Refusal),
     Passed { request: Request, front: bool },

@@ -1,6 +1,8 @@
 // The kinds of thing that document 01 speaks of, declared once: the definitions in specs/ and the code of the crates
 // above use the same types. In document 01's order. There is no code here but what numbers name: a unit's number, an event's
 // code, a refusal's number.
+#![tactic(auto)]
+
 ghost use Rattle.std.specs.Prelude.{◌≡◌, min};
 ghost use Rattle.board.specs.Answers.{number};
 ghost use Rattle.board.specs.Ending.{event_named};
@@ -9,11 +11,11 @@ ghost use Rattle.board.specs.Ending.{event_named};
 
 // Ticket, place and unit are three kinds of number that must never be taken for one another. (A place is how the code
 // stores a request; it comes with the code.)
-#[derive(Drop)]
+#[derive(Clone, Copy)]
 pub struct Ticket(pub u32);
 
 // Target x 8 + LUN, 0 to 63.
-#[derive(Drop)]
+#[derive(Clone, Copy)]
 pub struct Unit(pub u8);
 
 // A unit by any number: one above 255 is never cut to 8 bits. (255 is no unit either.)
@@ -27,7 +29,7 @@ pub fn unit_numbered(n: u32) -> Unit
 }
 
 // The 12 CDB bytes as three little-endian words, since an enum (a send's answer) can't hold an array.
-#[derive(Drop)]
+#[derive(Clone, Copy)]
 pub struct Cdb {
     pub first: u32,
     pub second: u32,
@@ -35,7 +37,7 @@ pub struct Cdb {
 }
 
 // A live request: its ticket, and what the board needs of the block.
-#[derive(Drop)]
+#[derive(Clone, Copy)]
 pub struct Request {
     pub ticket: Ticket,
     pub unit: Unit,
@@ -55,7 +57,7 @@ pub struct Request {
 
 // An active request: the clock when it was sent, and its two marks, that the host asked for its abort and that it is
 // overdue.
-#[derive(Drop)]
+#[derive(Clone, Copy)]
 pub struct Active {
     pub request: Request,
     pub start: u32,
@@ -65,7 +67,7 @@ pub struct Active {
 
 // What a block is told when its request is handed back: the status byte, the SCSI status, the autosense residual and
 // the residual.
-#[derive(Drop)]
+#[derive(Clone, Copy)]
 pub struct Told {
     pub status: u8,
     pub scsi: u8,
@@ -74,7 +76,7 @@ pub struct Told {
 }
 
 // A finished request.
-#[derive(Drop)]
+#[derive(Clone, Copy)]
 pub struct Finished {
     pub request: Request,
     pub told: Told,
@@ -83,7 +85,7 @@ pub struct Finished {
 // ---- sending
 
 // What the rotation finds: the first eligible unit with how many units were looked at, or none.
-#[derive(Drop)]
+#[derive(Clone, Copy)]
 pub enum Rotation {
     Found { unit: Unit, looked: u8 },
     Nobody,
@@ -92,7 +94,7 @@ pub enum Rotation {
 // ---- how a request ends
 
 // What became of the sense: a byte count, failed, or none.
-#[derive(Drop)]
+#[derive(Clone, Copy)]
 pub enum Sense {
     Bytes(u8),
     Failed,
@@ -100,7 +102,7 @@ pub enum Sense {
 }
 
 // What the adapter reports on a ticket.
-#[derive(Drop)]
+#[derive(Clone, Copy)]
 pub enum Event {
     AbortDone,
     SelectionTimeout,
@@ -112,13 +114,14 @@ pub enum Event {
 }
 
 // What a code names: an event that has a status of its own, or none.
-#[derive(Drop)]
+#[derive(Clone, Copy)]
 pub enum Coded {
     Names(Event),
     Nothing,
 }
 
 // The event that a code names.
+#[tactic(auto, unfolding(crate::specs::Ending::event_named))]
 pub fn event_named(code: u32) -> Coded
     ensures { result ≡ event_named code }
 {
@@ -142,7 +145,7 @@ pub fn event_named(code: u32) -> Coded
 
 // What an end is made of, before it is known whether its unit is frozen: the base status, the SCSI status, whether sense
 // was looked at and at least 1 byte came, the autosense residual, the residual.
-#[derive(Drop)]
+#[derive(Clone, Copy)]
 pub struct End {
     pub base: u8,
     pub scsi: u8,
@@ -152,7 +155,7 @@ pub struct End {
 }
 
 // What an event makes of an active request: its end, or refusal 102.
-#[derive(Drop)]
+#[derive(Clone, Copy)]
 pub enum Ending {
     Ended(End),
     Refused,
@@ -161,7 +164,7 @@ pub enum Ending {
 // ---- the answers, one enum for each call that has more than one kind of answer
 
 // Why taking in says no, by the names that source document 000 (Table 5) has for the numbers.
-#[derive(Drop)]
+#[derive(Clone, Copy)]
 pub enum Refusal {
     CamBusy,
     InvalidRequest,
@@ -184,14 +187,14 @@ pub fn number_of(why: Refusal) -> u8
 }
 
 // Taking a request in.
-#[derive(Drop)]
+#[derive(Clone, Copy)]
 pub enum TakingIn {
     Taken(Ticket),
     Refused(Refusal),
 }
 
 // Sending.
-#[derive(Drop)]
+#[derive(Clone, Copy)]
 pub enum Sending {
     Sent {
         ticket: Ticket,
@@ -205,7 +208,7 @@ pub enum Sending {
 }
 
 // An event on a ticket: the request ended; 101; or 102, an event that can't be.
-#[derive(Drop)]
+#[derive(Clone, Copy)]
 pub enum Reporting {
     Ended,
     NotActive,
@@ -213,21 +216,21 @@ pub enum Reporting {
 }
 
 // Abort.
-#[derive(Drop)]
+#[derive(Clone, Copy)]
 pub enum Aborting {
     Done,
     UnableToAbort,
 }
 
 // Freeze, release: 1 if the unit was frozen before, else 0.
-#[derive(Drop)]
+#[derive(Clone, Copy)]
 pub enum Freezing {
     Before(u8),
     NoSuchUnit,
 }
 
 // A look at the finished line.
-#[derive(Drop)]
+#[derive(Clone, Copy)]
 pub enum Looking {
     First {
         ticket: Ticket,
@@ -239,7 +242,7 @@ pub enum Looking {
 }
 
 // Hand back.
-#[derive(Drop)]
+#[derive(Clone, Copy)]
 pub enum HandingBack {
     Handed { ticket: Ticket, told: Told },
     Empty,

@@ -1,5 +1,7 @@
 // The program's own copies of the blocks of live requests, in lent memory: 32 slots. A slot has a number in the book, a ticket or 0 while
 // it is free, the length of its copy there, and room for 200 bytes in the store.
+#![tactic(auto)]
+
 ghost use Rattle.std.specs.Prelude.{◌≡◌, ◌+◌, ◌≤◌, length, replicate};
 ghost use Rattle.copies.specs.Slots.{slot_of, lies, pasted, noted, forgotten, store_with};
 
@@ -15,7 +17,7 @@ pub const BOOK: usize = 64;
 pub const STORE: usize = 6400;
 
 // Where a copy lies in the store.
-#[derive(Drop)]
+#[derive(Clone, Copy)]
 pub struct Lies {
     pub at: usize,
     pub length: usize,

@@ -1,5 +1,7 @@
 // The desk: the board of document 01 in lent words, altered in place. Each public call promises, for every memory, that it ends and that
 // a refusal leaves every word as it was; and for every valid memory exactly `step`.
+#![tactic(auto)]
+
 ghost use Rattle.std.specs.Prelude.{◌≡◌, ℕ, ◌+◌, ◌<◌, []};
 ghost use Rattle.board.specs.Board.{the_unit};
 ghost use Rattle.board.specs.Answers.{aborting_says, done, freezing_says, handing_back_says, looking_says, number, refused, reporting_says, sending_says, taking_in_says, time};
@@ -160,7 +162,7 @@ fn enter(mem: &mut [u32; WORDS], p: Place, q: Request, front: bool)
 }
 
 // What taking in gives: the answer, and the last ticket given afterwards.
-#[derive(Drop)]
+#[derive(Clone, Copy)]
 pub struct Took {
     pub answer: TakingIn,
     pub given: u32,
@@ -333,7 +335,7 @@ fn launch(mem: &mut [u32; WORDS], u: usize, clock: u32) -> Request
 }
 
 // What a send gives: the answer, and the mark afterwards.
-#[derive(Drop)]
+#[derive(Clone, Copy)]
 pub struct Went {
     pub answer: Sending,
     pub mark: Unit,

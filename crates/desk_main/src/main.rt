@@ -1,5 +1,7 @@
 // A short read, from a fresh desk to the block that is handed back: 512 bytes are asked for and 500 moved. The program prints what it saw;
 // that every answer is the expected one is proved of `story`, from the desk's promises.
+#![tactic(auto)]
+
 ghost use Rattle.std.specs.Prelude.{◌≡◌, true, replicate};
 ghost use Rattle.board.specs.Answers.{handing_back_says, looking_says, reporting_says, sending_says, taking_in_says};
 ghost use Rattle.desk_main.specs.Story.{short_read, short_read_handed, short_read_seen, in_sight, sight, has_ticket, is_short_by_12, as_expected};
@@ -8,7 +10,7 @@ use board::{Event, HandingBack, Looking, Reporting, Sending, Sense, TakingIn, Ti
 use rows::WORDS;
 
 // What the host sees in an answer: whether it is a refusal, and its numbers, 0 where it has none.
-#[derive(Drop)]
+#[derive(Clone, Copy)]
 struct Sight {
     refused: bool,
     ticket: Ticket,
@@ -17,7 +19,7 @@ struct Sight {
 }
 
 // What the host sees of the whole story, call by call.
-#[derive(Drop)]
+#[derive(Clone, Copy)]
 struct Seen {
     taken: Sight,
     sent: Sight,
@@ -186,7 +188,7 @@ fn as_expected(s: Seen) -> bool
 }
 
 // What was seen, and whether it is what is expected.
-#[derive(Drop)]
+#[derive(Clone, Copy)]
 struct Outcome {
     seen: Seen,
     right: bool,

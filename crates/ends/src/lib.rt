@@ -1,4 +1,6 @@
 // How a request ends: what an event makes of an active request, the ends without an event, and when a request is late.
+#![tactic(auto)]
+
 ghost use Rattle.std.specs.Prelude.{◌≡◌, ◌-◌, ◌%◌, ◌<◌, ◌≤◌, true, pos, ◌-ℤ◌};
 ghost use Rattle.board.specs.Plain.{◌=?◌, if◌then◌else◌};
 ghost use Rattle.board.specs.Ending.{bytes_of, end_unmoved, ending, status_byte, told};
@@ -10,7 +12,7 @@ use board::{Active, End, Ending, Event, Request, Sense, Told};
 
 // What an event makes of an active request: refusal 102; or what its block will be told, and whether the end freezes its
 // unit.
-#[derive(Drop)]
+#[derive(Clone, Copy)]
 pub enum Closing {
     Refused,
     Closed { told: Told, bad: bool },

@@ -1,4 +1,6 @@
 // A replay's log that comes piece by piece: its whole lines answered, and what stands over of a line kept for the next piece.
+#![tactic(auto)]
+
 ghost use Rattle.std.specs.Prelude.{◌≡◌, false, ℕ, ◌+◌, ◌-◌, ◌*◌, ◌≤◌, ◌<◌, min, length, take, drop};
 ghost use Rattle.copies.specs.Slots.{pasted};
 ghost use Rattle.replay_log.specs.Memory.{memory};
@@ -89,7 +91,7 @@ fn append(
 }
 
 // What whole lines leave by value: the counters, where the first line that has not ended begins, and how many bytes were written.
-#[derive(Drop)]
+#[derive(Clone, Copy)]
 struct Lines {
     counters: Counters,
     at: usize,
@@ -154,7 +156,7 @@ fn keep_over(buf: &mut [u8], at: usize, end: usize) -> usize
 // ---- a piece of the log
 
 // What a piece leaves by value: the counters, how many bytes stand over at the front of the input's buffer, and how many were written.
-#[derive(Drop)]
+#[derive(Clone, Copy)]
 pub struct Turn {
     pub counters: Counters,
     pub over: usize,

@@ -1,4 +1,6 @@
 // One record of the replay's log: a line's bytes to a record. The types, then single fields, events, blocks, the line.
+#![tactic(auto)]
+
 ghost use Rattle.std.specs.Prelude.{◌≡◌, true, [], ◌≤◌, ◌<◌, length};
 ghost use Rattle.std.proofs.lemmas.List.Edits.{sets};
 ghost use Rattle.lines.specs.Text.{fields, is_hex, hex_value, number, more, all_hex, bytes, code, Cut};
@@ -8,7 +10,7 @@ use board::{Coded, Event, Sense, Ticket};
 
 // A record. The bytes of a submitted block stand at the start of the lent array; here is how many they are. A unit may be
 // any number, since the desk is to refuse those above 63.
-#[derive(Drop)]
+#[derive(Clone, Copy)]
 pub enum Line {
     Submit(usize),
     Send,
@@ -23,21 +25,21 @@ pub enum Line {
 }
 
 // A field read as a decimal number.
-#[derive(Drop)]
+#[derive(Clone, Copy)]
 enum Number {
     Is(u32),
     Not,
 }
 
 // A field read as a code.
-#[derive(Drop)]
+#[derive(Clone, Copy)]
 enum Code {
     Byte(u8),
     Bad,
 }
 
 // A field read as the kind of an event; the two further fields of a "complete" are yet to be read.
-#[derive(Drop)]
+#[derive(Clone, Copy)]
 enum Kind {
     Plain(Event),
     Completed,
@@ -45,7 +47,7 @@ enum Kind {
 }
 
 // A field read as what became of the sense.
-#[derive(Drop)]
+#[derive(Clone, Copy)]
 enum Sensed {
     Says(Sense),
     Wrong,

@@ -1,6 +1,8 @@
 // The desk for C: one exported function for each call, over numbers, lent bytes, the lent words and the wheel. Nothing is required of a
 // caller's numbers: a count of words that is too small, a unit above 255, an event that is none are answered by a number, and alter
 // nothing. In this order: the records that C is given; what a number of C means; what an answer is in C; the calls.
+#![tactic(auto)]
+
 ghost use Rattle.std.specs.Prelude.{◌≡◌};
 ghost use Rattle.board.specs.Answers.{aborting_says, done, freezing_says, handing_back_says, looking_says, taking_in_says};
 ghost use Rattle.board.specs.Board.{the_ticket, the_unit};
@@ -24,7 +26,7 @@ use wheel::Wheel;
 
 // Taking in: the ticket.
 #[repr(C)]
-#[derive(Drop)]
+#[derive(Clone, Copy)]
 pub struct Taken {
     pub refused: u32,
     pub ticket: u32,
@@ -32,7 +34,7 @@ pub struct Taken {
 
 // Sending: whether a request was sent, its ticket, unit and CDB, and how many units were looked at.
 #[repr(C)]
-#[derive(Drop)]
+#[derive(Clone, Copy)]
 pub struct Sent {
     pub refused: u32,
     pub ticket: u32,
@@ -44,7 +46,7 @@ pub struct Sent {
 
 // A look at the finished line: whether it has a first request, its ticket, address and callback, and whether the callback is wanted.
 #[repr(C)]
-#[derive(Drop)]
+#[derive(Clone, Copy)]
 pub struct First {
     pub refused: u32,
     pub ticket: u32,
@@ -56,7 +58,7 @@ pub struct First {
 
 // Hand back: the ticket, and what the block was told. (For C, `scsi` is scsi_status and `unsensed` autosense_residual.)
 #[repr(C)]
-#[derive(Drop)]
+#[derive(Clone, Copy)]
 pub struct Handed {
     pub refused: u32,
     pub ticket: u32,
@@ -69,7 +71,7 @@ pub struct Handed {
 // ---- what a number of C means
 
 // What a report means: an event, or none, which is refused by a number.
-#[derive(Drop)]
+#[derive(Clone, Copy)]
 pub enum Meant {
     Event(Event),
     Unclear(u32),

@@ -2,6 +2,8 @@
 // stands over from one read to the next, is `feed`'s; `run` is proved to hand it one piece after the other as `Through` asks
 // (crates/feed/specs/Feeding.antt), so that by `WholeLog` what is written is the replay of what is read. A piece is answered before the
 // next one is read: a log can be piped in live.
+#![tactic(auto)]
+
 ghost use Rattle.std.specs.Prelude.{◌≡◌, ◌+◌, ◌≤◌, length, take};
 ghost use Rattle.replay_log.specs.Memory.{memory};
 ghost use Rattle.replay.specs.Progress.{Progress};
@@ -28,7 +30,7 @@ fn write_out(out: &[u8], n: usize) -> bool
 }
 
 // Where a run stopped: the counters, what stands over, and whether the input came to its end.
-#[derive(Drop)]
+#[derive(Clone, Copy)]
 struct Stop {
     counters: Counters,
     over: usize,

@@ -1,5 +1,7 @@
 // One line of a replay's log in, one line out. The state is lent: the desk's words, and the book and the store of the copies of live
 // requests' blocks.
+#![tactic(auto)]
+
 ghost use Rattle.std.specs.Prelude.{◌≡◌, List, ℕ, ◌≤◌, min, length};
 ghost use Rattle.lines.specs.Record.{parse, submit, send, event, abort, freeze, release, tick, reset, hand_back, malformed};
 ghost use Rattle.replay_log.specs.Memory.{memory};
@@ -12,7 +14,7 @@ use lines::Line;
 use rows::WORDS;
 
 // What the desk's calls take and give by value: the clock, the rotation mark, the last ticket given.
-#[derive(Drop)]
+#[derive(Clone, Copy)]
 pub struct Counters {
     pub clock: u32,
     pub mark: Unit,
@@ -20,7 +22,7 @@ pub struct Counters {
 }
 
 // What a line leaves by value: the counters, and how many bytes its answer has.
-#[derive(Drop)]
+#[derive(Clone, Copy)]
 pub struct Reply {
     pub counters: Counters,
     pub length: usize,

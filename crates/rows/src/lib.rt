@@ -2,6 +2,8 @@
 // stands at a place, and what a row means, is not known here.
 //
 // The functions ask that rows and places be in range (`requires`): only proved crates call them, and each call proves it.
+#![tactic(auto)]
+
 ghost use Rattle.std.specs.Prelude.{◌≡◌, ◌<◌, min};
 ghost use Rattle.rows.specs.Rows.{Begun};
 ghost use Rattle.rows.specs.Words.{next, head, popped, put_last, put_first, cut_after, cut_out, seek_from, smallest_from, length_from};
@@ -19,11 +21,11 @@ pub const ROWS: usize = 67;
 pub const WORDS: usize = 838;
 
 // A place, 0 to 31: never a ticket, never a unit.
-#[derive(Drop)]
+#[derive(Clone, Copy)]
 pub struct Place(pub usize);
 
 // What a search along a row finds: a place, and the one before it (32 if it is the first).
-#[derive(Drop)]
+#[derive(Clone, Copy)]
 pub enum Spot {
     At { before: Place, place: Place },
     Nowhere,

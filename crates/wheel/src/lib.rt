@@ -2,6 +2,8 @@
 // mark, and nothing else of it. A function that takes or makes a `&mut Wheel` is proved by a walk of its code by hand. So the four that
 // do have no branch; what branches stands below them and knows no reference to the wheel. A caller that keeps the wheel by value calls
 // `tick_by` and `send_by`, and needs no walk.
+#![tactic(auto)]
+
 ghost use Rattle.std.specs.Prelude.{◌≡◌};
 ghost use Rattle.wheel.specs.Turned.{mark_after, SendsFrom, Ticks, Sends};
 
@@ -10,7 +12,7 @@ use rows::WORDS;
 
 // The clock, and the rotation mark as a unit's number.
 #[repr(C)]
-#[derive(Drop)]
+#[derive(Clone, Copy)]
 pub struct Wheel {
     pub clock: u32,
     pub mark: u8,
@@ -65,7 +67,7 @@ pub fn send(mem: &mut [u32; WORDS], wheel: &mut Wheel) -> Sending
 // ---- the wheel by value
 
 // What a tick gives: the clock, and the wheel afterwards.
-#[derive(Drop)]
+#[derive(Clone, Copy)]
 pub struct Ticked {
     pub clock: u32,
     pub wheel: Wheel,
@@ -81,7 +83,7 @@ pub fn tick_by(mem: &mut [u32; WORDS], wheel: Wheel) -> Ticked
 }
 
 // What a send gives: the answer, and the wheel afterwards.
-#[derive(Drop)]
+#[derive(Clone, Copy)]
 pub struct Turned {
     pub answer: Sending,
     pub wheel: Wheel,
