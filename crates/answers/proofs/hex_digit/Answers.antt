@@ -1,0 +1,12 @@
+-- `answers::hex_digit` meets its contract. Assumes nothing.
+use Rattle.answers.specs.Answer.{hex_digit}
+use borrow.Author.Tests.{lt-ltb, le-ltb}
+use Rattle.answers.proofs.hex_digit.Goals as goal
+
+pub returns-then-d-lt10 : goal.returns-then-d-lt10
+unfolding hex_digit
+returns-then-d-lt10 c = rw (lt-ltb _ 10 c.if-d-lt10.true)
+
+pub returns-else-d-lt10 : goal.returns-else-d-lt10
+unfolding hex_digit
+returns-else-d-lt10 c = rw (le-ltb _ 10 c.if-d-lt10.false)

@@ -1,0 +1,6 @@
+-- `ends::own_end` meets its contract. Assumes nothing.
+use Rattle.std.proofs.Common.{rules}
+use Rattle.ends.proofs.own_end.Goals as goal
+
+pub returns : goal.returns
+returns c = cc

@@ -1,0 +1,7 @@
+-- `lines::hex_digit` meets its contract. Assumes nothing.
+use Rattle.lines.proofs.Texts.{digit_value}
+use borrow.Author.Rules.{rules}
+use Rattle.lines.proofs.hex_digit.Goals as goal
+
+pub returns : goal.returns
+returns c = digit_value c.args.c c.requires
