@@ -369,8 +369,8 @@ module _ (m m' : List ℕ) (k p q : ℕ) (ag : (x : ℕ) → x < 32 → x ≢ p 
 
 -- the last of what is left
 last_cut : (t p q x : ℕ) (a b : List ℕ) → Last t (x ∷ (a ++ (p ∷ b))) → Last q (x ∷ a) → NotIn p b → Last (cond (eqb t p) q t) (x ∷ (a ++ b))
-last_cut t p q x [] [] h e n = rw (eq-eqb t p h) e
-last_cut t p q x [] (y ∷ b) h e n = rw (ne_eqb t p (λ z. notin_last p t y b n h (sym z))) h
+last_cut t p q x [] [] h e n = subst (λ z. Last (cond z q t) (x ∷ [])) (sym (eq-eqb t p h)) e
+last_cut t p q x [] (y ∷ b) h e n = subst (λ z. Last (cond z q t) (x ∷ (y ∷ b))) (sym (ne_eqb t p (λ z. notin_last p t y b n h (sym z)))) h
 last_cut t p q x (y ∷ a) b h e n = last_cut t p q y a b h e n
 
 pub cut_linked : (m : List ℕ) (R : ℕ → List ℕ) (k q p x : ℕ) (a b : List ℕ) → Linked m R → k < 67 → R k ≡ x ∷ (a ++ (p ∷ b)) → Last q (x ∷ a)

@@ -58,6 +58,7 @@ pub fn take_first(mem: &mut [u32; WORDS], k: usize, p: Place)
 }
 
 // Place p becomes the last of row k.
+#[tactic(auto, unfolding(crate::specs::Words::put_last))]
 pub fn put_last(mem: &mut [u32; WORDS], k: usize, p: Place)
     requires { (k < 67) × (p.0 < 32) }
     ensures { mem.new ≡ put_last mem.old k p.0 }
@@ -75,6 +76,7 @@ pub fn put_last(mem: &mut [u32; WORDS], k: usize, p: Place)
 }
 
 // Place p becomes the first of row k.
+#[tactic(auto, unfolding(crate::specs::Words::put_first))]
 pub fn put_first(mem: &mut [u32; WORDS], k: usize, p: Place)
     requires { (k < 67) × (p.0 < 32) }
     ensures { mem.new ≡ put_first mem.old k p.0 }
@@ -90,6 +92,7 @@ pub fn put_first(mem: &mut [u32; WORDS], k: usize, p: Place)
 }
 
 // Place p, which follows q in row k, is taken out.
+#[tactic(auto, unfolding(crate::specs::Words::cut_after))]
 fn take_after(mem: &mut [u32; WORDS], k: usize, q: Place, p: Place)
     requires { (k < 67) × (q.0 < 32) × (p.0 < 32) }
     ensures { mem.new ≡ cut_after mem.old k q.0 p.0 }

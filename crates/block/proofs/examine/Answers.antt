@@ -11,29 +11,22 @@ use Rattle.block.specs.Checked.{outcome_of, examined, checks_from_4}
 use Rattle.block.proofs.Passed.{long_enough}
 use Rattle.block.proofs.examine.Goals as goal
 
--- what the test of check 1 tells on either way
-short : (c : tie.Then1) → length c.args.block.now < 8
-short c = omega arith
-
-enough : (c : tie.Else1) → 8 ≤ length c.args.block.now
-enough c = omega arith
-
 pub returns-then-lent-lt8 : goal.returns-then-lent-lt8
 unfolding examined outcome_of first_that_applies checks_of_block
-returns-then-lent-lt8 c = rw (lt-ltb _ _ (short c))
+returns-then-lent-lt8 c = rw (lt-ltb _ _ (let h : length c.args.block.now < 8 = omega arith in h))
 
 pub returns-then-function_code-ne1 : goal.returns-then-function_code-ne1
 unfolding examined outcome_of first_that_applies checks_of_block fields
-returns-then-function_code-ne1 c = rw (le-ltb _ _ (enough c), ne_eqb _ _ c.if-function_code-ne1.true)
+returns-then-function_code-ne1 c = rw (le-ltb _ _ (let h : 8 ≤ length c.args.block.now = omega arith in h), ne_eqb _ _ c.if-function_code-ne1.true)
 
 pub returns-then-length-lent : goal.returns-then-length-lent
 unfolding examined outcome_of first_that_applies checks_of_block fields
-returns-then-length-lent c = rw (le-ltb _ _ (enough c), eq-eqb _ _ c.if-function_code-ne1.false, ← c.two_bytes-length.ensures.0, c.if-length-lent.true)
+returns-then-length-lent c = rw (le-ltb _ _ (let h : 8 ≤ length c.args.block.now = omega arith in h), eq-eqb _ _ c.if-function_code-ne1.false, ← c.two_bytes-length.ensures.0, c.if-length-lent.true)
 
 pub examine_whole-requires : goal.examine_whole-requires
 examine_whole-requires c = long_enough c.two_bytes-length.result _ c.if-length-lent.false
 
 pub returns : goal.returns
 unfolding examined first_that_applies checks_of_block fields checks_from_4
-returns c = rw (le-ltb _ _ (enough c), eq-eqb _ _ c.if-function_code-ne1.false, rw c.two_bytes-length.ensures.0 at c.if-length-lent.false)
+returns c = rw (le-ltb _ _ (let h : 8 ≤ length c.args.block.now = omega arith in h), eq-eqb _ _ c.if-function_code-ne1.false, rw c.two_bytes-length.ensures.0 at c.if-length-lent.false)
     c.examine_whole.ensures

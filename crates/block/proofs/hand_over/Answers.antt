@@ -8,27 +8,20 @@ use Rattle.board.specs.Block.{whole_block}
 use Rattle.board.specs.Calls.{not_its_block}
 use Rattle.block.proofs.hand_over.Goals as goal
 
--- what the test of the length tells on either way
-short : (c : tie.Then1) → length c.args.block.now < whole_block
-short c = omega arith
-
-whole : (c : tie.Else1) → whole_block ≤ length c.args.block.now
-whole c = omega arith
-
 pub returns-then-block-lt-WHOLE_BLOCK : goal.returns-then-block-lt-WHOLE_BLOCK
 unfolding not_its_block
-returns-then-block-lt-WHOLE_BLOCK c = let h = lt-ltb _ _ (short c) in record { says = rw h; bytes = rw h }
+returns-then-block-lt-WHOLE_BLOCK c = let h = lt-ltb _ _ (let h : length c.args.block.now < whole_block = omega arith in h) in record { says = rw h; bytes = rw h }
 
 pub returns-then-four_bytes-address : goal.returns-then-four_bytes-address
 unfolding not_its_block
-returns-then-four_bytes-address c = let h = le-ltb _ _ (whole c) in
+returns-then-four_bytes-address c = let h = le-ltb _ _ (let h : whole_block ≤ length c.args.block.now = omega arith in h) in
     let a = ne_eqb _ _ c.if-four_bytes-address.true in
     let e = c.four_bytes.ensures in
     record { says = rw (h, ← e, a); bytes = rw (h, ← e, a) }
 
 pub returns : goal.returns
 unfolding not_its_block
-returns c = let h = le-ltb _ _ (whole c) in
+returns c = let h = le-ltb _ _ (let h : whole_block ≤ length c.args.block.now = omega arith in h) in
     let a = eq-eqb _ _ c.if-four_bytes-address.false in
     let e = c.four_bytes.ensures in
     record { says = rw (h, ← e, a); bytes = rw (h, ← e, a) c.tell.ensures }

@@ -10,19 +10,15 @@ use Rattle.board.specs.Block.{signed}
 use Rattle.block.proofs.Signed.{minus_one_less}
 use Rattle.block.proofs.signed_of.Goals as goal
 
--- what 0xFFFFFFFF leaves of x is below 2 ^ 31
-rest : (c : tie.Else1) → 4294967295 - c.args.x < 2147483648
-rest c = omega arith
-
 pub returns-then-x-lt2147483648 : goal.returns-then-x-lt2147483648
 unfolding signed
 returns-then-x-lt2147483648 c = rw (lt-ltb _ _ c.if-x-lt2147483648.true)
 
 pub overflow_sub-result-2 : goal.overflow_sub-result-2
-overflow_sub-result-2 c = rw (to_z_pos w32 (4294967295 - c.args.x) (rest c), minus_one_less (4294967295 - c.args.x)) (record { sfits = rest c })
+overflow_sub-result-2 c = rw (to_z_pos w32 (4294967295 - c.args.x) (let h : 4294967295 - c.args.x < 2147483648 = omega arith in h), minus_one_less (4294967295 - c.args.x)) (record { sfits = (let h : 4294967295 - c.args.x < 2147483648 = omega arith in h) })
 
 pub returns : goal.returns
 unfolding signed
 returns c = let e : 4294967296 - suc c.args.x ≡ 4294967295 - c.args.x = omega arith in
-    to_z-of_z w32 _ (sub-result-2 c)
-    ∙ rw (to_z_pos w32 (4294967295 - c.args.x) (rest c), minus_one_less (4294967295 - c.args.x), le-ltb _ _ c.if-x-lt2147483648.false, e)
+    to_z-of_z w32 _ (overflow_sub-result-2 c)
+    ∙ rw (to_z_pos w32 (4294967295 - c.args.x) (let h : 4294967295 - c.args.x < 2147483648 = omega arith in h), minus_one_less (4294967295 - c.args.x), le-ltb _ _ c.if-x-lt2147483648.false, e)

@@ -10,4 +10,4 @@ returns-then-looked-asked c = rw (← c.bytes_of-came.ensures, c.if-looked-asked
 pub returns : goal.returns
 unfolding completely
 returns c = rw (← c.bytes_of-came.ensures, c.if-looked-asked.false)
-    (cc (to_z-of_z {w = w32} {z = c.residual_of-residual.result} (record { sfits = c.residual_of-residual.type-inv })))
+    (cc (to_z-of_z {w = w32} {z = c.residual_of-residual.result} (record { sfits = c.residual_of-residual.type_inv })))

@@ -5,4 +5,4 @@ use Rattle.ends.proofs.plain_end.Goals as goal
 
 pub returns : goal.returns
 unfolding plainly
-returns c = cc (to_z-of_z {w = w32} {z = c.residual_of-residual.result} (record { sfits = c.residual_of-residual.type-inv }))
+returns c = cc (to_z-of_z {w = w32} {z = c.residual_of-residual.result} (record { sfits = c.residual_of-residual.type_inv }))

@@ -9,4 +9,4 @@ overflow_sub-result c = rw (to_z_pos w32 _ c.requires.asked, to_z_pos w32 _ c.re
     (record { sfits = mag_diff c.args.length c.args.moved 2147483648 c.requires.asked c.requires.came })
 
 pub returns : goal.returns
-returns c = to_z-of_z w32 _ (sub-result c) ∙ rw (to_z_pos w32 _ c.requires.asked, to_z_pos w32 _ c.requires.came)
+returns c = to_z-of_z w32 _ (overflow_sub-result c) ∙ rw (to_z_pos w32 _ c.requires.asked, to_z_pos w32 _ c.requires.came)

@@ -1,6 +1,4 @@
 -- `rows::begin` meets its contract. After p turns the first p places are in row 0. Assumes nothing.
-use borrow.Author.Rules.{rules}
-use Prim.Native.Nat.{◌≤◌, ◌-◌}
 use native.Mathlib.Omega.{arith}
 use mathlib.Core.Path.{◌≡◌, subst}
 use Rattle.rows.proofs.Fresh.{BegunTo, begun_none, begun_more, begun_all}

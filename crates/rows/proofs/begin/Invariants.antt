@@ -1,9 +1,6 @@
 -- `rows::begin` meets its contract. After p turns the first p places are in row 0. Assumes nothing.
-use borrow.Author.Rules.{rules}
 use Prim.Native.Nat.{◌≤◌, ◌-◌}
-use native.Mathlib.Omega.{arith}
-use mathlib.Core.Path.{◌≡◌, subst}
-use Rattle.rows.proofs.Fresh.{BegunTo, begun_none, begun_more, begun_all}
+use Rattle.rows.proofs.Fresh.{BegunTo}
 use Rattle.rows.proofs.begin.Given as goal
 
 abbrev pub invariant-loop-p : goal.invariant-loop-p

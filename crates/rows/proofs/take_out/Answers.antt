@@ -1,7 +1,6 @@
 -- `rows::take_out` meets its contract. Assumes nothing.
 use borrow.Author.Tests.{lt-ltb, le-ltb}
 use Rattle.rows.specs.Words.{cut_out}
-use borrow.Author.Rules.{rules}
 use Rattle.rows.proofs.take_out.Goals as goal
 
 pub returns-then-q-lt32 : goal.returns-then-q-lt32
