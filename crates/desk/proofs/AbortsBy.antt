@@ -7,7 +7,7 @@ use Rattle.board.specs.declared.Ticket.{Ticket}
 use Rattle.board.specs.declared.Unit.{Unit}
 use Rattle.board.specs.declared.Request.{Request}
 use Rattle.board.specs.Board.{the_unit, same_ticket, of_units, units, find, without, is_frozen, frozen, Board, all_waiting, with_waiting}
-use Rattle.board.specs.Answers.{refused, done, says}
+use Rattle.board.specs.Answers.{refused, done}
 use Rattle.board.specs.Ending.{told, end_unmoved, to_finished}
 use Rattle.board.specs.Calls.{ended_waiting, asked, aborted, aborting, abort, step}
 use Rattle.board.proofs.Choose.{both_ifs, none≢some, true≢false}

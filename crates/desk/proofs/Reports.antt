@@ -10,7 +10,7 @@ use Rattle.board.specs.declared.Told.{Told}
 use Rattle.board.specs.declared.Reporting.{Reporting}
 use Rattle.board.specs.Plain.{◌=?◌}
 use Rattle.board.specs.Board.{the_unit, find, without, ticket_of_active, is_frozen, Freeze, Board, with_active, with_freeze}
-use Rattle.board.specs.Answers.{refused, done, says, reporting_says}
+use Rattle.board.specs.Answers.{refused, done, reporting_says}
 use Rattle.board.specs.Ending.{ending, freeze_after, told, ended_active, reported_by, reported, reporting}
 use Rattle.board.specs.Calls.{event, step}
 use Rattle.ends.specs.declared.Closing.{Closing}

@@ -10,11 +10,11 @@ use Rattle.desk.specs.View.{Rest, view, Valid}
 use Rattle.desk.specs.Session.{Session, over, after, start, ran, Desk}
 use Rattle.desk.specs.Promise.{Fresh}
 
-session_valid : {m m' : List ℕ} {r r' : Rest} {calls : List Call} {answers : List Answer} {blocks : List (List ℕ)} → Valid m r → Session m' r' m r calls answers blocks → Valid m' r'
+session_valid : {m' : List ℕ} {r' : Rest} {m : List ℕ} {r : Rest} {calls : List Call} {answers : List Answer} {blocks : List (List ℕ)} → Valid m r → Session m' r' m r calls answers blocks → Valid m' r'
 session_valid v over = v
 session_valid v (after m n r s c a lent calls answers blocks d more) = session_valid (d.valid v) more
 
-session_runs : {m m' : List ℕ} {r r' : Rest} {calls : List Call} {answers : List Answer} {blocks : List (List ℕ)} → Valid m r → Session m' r' m r calls answers blocks → ran m' r' answers blocks ≡ run (view m r) calls
+session_runs : {m' : List ℕ} {r' : Rest} {m : List ℕ} {r : Rest} {calls : List Call} {answers : List Answer} {blocks : List (List ℕ)} → Valid m r → Session m' r' m r calls answers blocks → ran m' r' answers blocks ≡ run (view m r) calls
 unfolding run
 session_runs v over = refl
 session_runs v (after m n r s c a lent calls answers blocks d more) =
