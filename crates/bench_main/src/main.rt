@@ -5,6 +5,7 @@
 
 use board::{Event, HandingBack, Looking, Reporting, Sending, Sense, TakingIn, Ticket, Unit};
 use rows::WORDS;
+use std::io;
 
 // ---- the answers' numbers
 
@@ -94,57 +95,42 @@ fn is_ended(a: Reporting) -> bool {
 
 // ---- printing
 
-fn say(text: &[u8]) {
-    io::write_all(1, text);
+fn say(rt: &impl Print, text: &str) -> io::Result<()> {
+    rt.print(text)
 }
 
-fn say_number(before: &[u8], n: u32) {
-    io::write_all(1, before);
-    io::print_decimal(1, n as u64);
+fn say_number(rt: &impl Print, before: &str, n: u32) -> io::Result<()> {
+    print!(rt; "{before}{n}")
 }
 
-// A hex digit, upper case; `?` for a number that is none.
-fn digit(n: u8) -> u8 {
-    if n < 10 {
-        return b'0' + n;
-    }
-    if n < 16 {
-        return b'A' + (n - 10);
-    }
-    b'?'
-}
-
-// A byte as two hex digits.
-fn say_code(before: &[u8], n: u8) {
-    io::write_all(1, before);
-    let text = [digit(n / 16), digit(n % 16)];
-    io::write_all(1, &text);
+// A byte as two hex digits, upper case.
+fn say_code(rt: &impl Print, before: &str, n: u8) -> io::Result<()> {
+    print!(rt; "{before}{n:02X}")
 }
 
 // The four bytes of a little-endian word.
-fn say_word(w: u32) {
-    say_code(b" ", (w % 256) as u8);
-    say_code(b" ", (w / 0x100 % 256) as u8);
-    say_code(b" ", (w / 0x10000 % 256) as u8);
-    say_code(b" ", (w / 0x1000000 % 256) as u8);
+fn say_word(rt: &impl Print, w: u32) -> io::Result<()> {
+    say_code(rt, " ", (w % 256) as u8)?;
+    say_code(rt, " ", (w / 0x100 % 256) as u8)?;
+    say_code(rt, " ", (w / 0x10000 % 256) as u8)?;
+    say_code(rt, " ", (w / 0x1000000 % 256) as u8)
 }
 
-fn say_whether(before: &[u8], yes: bool) {
-    io::write_all(1, before);
+fn say_whether(rt: &impl Print, before: &str, yes: bool) -> io::Result<()> {
+    rt.print(before)?;
     if yes {
-        io::write_all(1, b"yes");
-    } else {
-        io::write_all(1, b"no");
+        return rt.print("yes");
     }
+    rt.print("no")
 }
 
 // A case's line ends; nothing is added if it is as expected.
-fn end_line(right: bool) -> bool {
+fn end_line(rt: &impl Print, right: bool) -> io::Result<bool> {
     if !right {
-        io::write_all(1, b" NOT as expected");
+        rt.print(" NOT as expected")?;
     }
-    io::write_all(1, b"\n");
-    right
+    rt.print("\n")?;
+    Ok(right)
 }
 
 // ---- blocks and calls
@@ -203,19 +189,19 @@ fn hand_87(mem: &mut [u32; WORDS], block: &mut [u8; 87]) -> Back {
 }
 
 fn same_88(a: &[u8; 88], b: &[u8; 88]) -> bool {
-    check::same(a, b)
+    a == b
 }
 
 fn same_87(a: &[u8; 87], b: &[u8; 87]) -> bool {
-    check::same(a, b)
+    a == b
 }
 
 fn same_8(a: &[u8; 8], b: &[u8; 8]) -> bool {
-    check::same(a, b)
+    a == b
 }
 
 fn same_7(a: &[u8; 7], b: &[u8; 7]) -> bool {
-    check::same(a, b)
+    a == b
 }
 
 // A request on a fresh desk that is finished already: ticket 1, aborted while it waited.
@@ -243,7 +229,7 @@ fn tick_5(mem: &mut [u32; WORDS], clock: u32) -> u32 {
 }
 
 // Sent at FFFFFFFEh with timeout 5: not overdue at clock 3, overdue at 4.
-fn clock_wrap(mem: &mut [u32; WORDS]) -> bool {
+fn clock_wrap(rt: &impl Print, mem: &mut [u32; WORDS]) -> io::Result<bool> {
     let mut block = [0u8; 88];
     write_plain(&mut block, 0x10);
     block[72] = 5;
@@ -256,20 +242,21 @@ fn clock_wrap(mem: &mut [u32; WORDS]) -> bool {
     let late = ends_overdue(mem);
     let back = hand(mem, &mut block);
     say_number(
-        b"clock wrap: sent at FFFFFFFEh with timeout 5, overdue at ",
+        rt,
+        "clock wrap: sent at FFFFFFFEh with timeout 5, overdue at ",
         third,
-    );
-    say_whether(b": ", early);
-    say_number(b", at ", fourth);
-    say_whether(b": ", late);
-    say_code(b", status ", back.status);
-    say(b"h");
+    )?;
+    say_whether(rt, ": ", early)?;
+    say_number(rt, ", at ", fourth)?;
+    say_whether(rt, ": ", late)?;
+    say_code(rt, ", status ", back.status)?;
+    say(rt, "h")?;
     let when = (third == 3) & (fourth == 4);
-    end_line(when & (!early & (late & (back.status == 0x4B))))
+    end_line(rt, when & (!early & (late & (back.status == 0x4B))))
 }
 
 // With FFFFFFFEh given the last ticket comes; then 05h, and still 05h when the board is empty again. Byte 7 says so too.
-fn last_ticket(mem: &mut [u32; WORDS]) -> bool {
+fn last_ticket(rt: &impl Print, mem: &mut [u32; WORDS]) -> io::Result<bool> {
     let mut block = [0u8; 88];
     write_plain(&mut block, 0x10);
     let mut next = [0u8; 88];
@@ -280,18 +267,21 @@ fn last_ticket(mem: &mut [u32; WORDS]) -> bool {
     desk::abort(mem, Ticket(0xFFFFFFFF));
     let back = hand(mem, &mut block);
     let alone = take(mem, &mut next, 0xFFFFFFFF);
-    say_number(b"last ticket: ", last.ticket);
-    say_code(b" given, then ", beside.number);
-    say_code(b"h, and with the board empty again ", alone.number);
-    say_code(b"h, byte 7 ", next[7]);
-    say(b"h");
+    say_number(rt, "last ticket: ", last.ticket)?;
+    say_code(rt, " given, then ", beside.number)?;
+    say_code(rt, "h, and with the board empty again ", alone.number)?;
+    say_code(rt, "h, byte 7 ", next[7])?;
+    say(rt, "h")?;
     let given = (last.ticket == 0xFFFFFFFF) & (last.number == 0);
     let refused = (beside.number == 0x05) & (alone.number == 0x05);
-    end_line(given & (refused & ((back.number == 0) & (next[7] == 0x05))))
+    end_line(
+        rt,
+        given & (refused & ((back.number == 0) & (next[7] == 0x05))),
+    )
 }
 
 // 87 bytes lent: 104 while the finished line is empty, and 105 once it isn't, though the address is right. Nothing is written.
-fn too_short(mem: &mut [u32; WORDS]) -> bool {
+fn too_short(rt: &impl Print, mem: &mut [u32; WORDS]) -> io::Result<bool> {
     let mut block = [0u8; 88];
     write_plain(&mut block, 0x10);
     let mut short = [0xA5u8; 87];
@@ -305,14 +295,14 @@ fn too_short(mem: &mut [u32; WORDS]) -> bool {
     finish_one(mem, &mut block);
     let first = hand_87(mem, &mut short);
     let kept = same_87(&short, &before);
-    say_number(b"refusal 105, 87 bytes lent: ", empty.number as u32);
-    say_number(b" while the line is empty, then ", first.number as u32);
-    say_whether(b", unwritten: ", kept);
-    end_line((empty.number == 104) & ((first.number == 105) & kept))
+    say_number(rt, "refusal 105, 87 bytes lent: ", empty.number as u32)?;
+    say_number(rt, " while the line is empty, then ", first.number as u32)?;
+    say_whether(rt, ", unwritten: ", kept)?;
+    end_line(rt, (empty.number == 104) & ((first.number == 105) & kept))
 }
 
 // A block with another address: 105, and nothing is written; then its own block is handed back.
-fn another_address(mem: &mut [u32; WORDS]) -> bool {
+fn another_address(rt: &impl Print, mem: &mut [u32; WORDS]) -> io::Result<bool> {
     let mut block = [0u8; 88];
     write_plain(&mut block, 0x10);
     let mut other = [0xA5u8; 88];
@@ -321,21 +311,21 @@ fn another_address(mem: &mut [u32; WORDS]) -> bool {
     let first = hand(mem, &mut other);
     let kept = same_88(&other, &before);
     let own = hand(mem, &mut block);
-    say_number(b"refusal 105, another address: ", first.number as u32);
-    say_whether(b", unwritten: ", kept);
-    say_number(b"; its own block: ", own.number as u32);
-    say_code(b", status ", own.status);
-    say(b"h");
+    say_number(rt, "refusal 105, another address: ", first.number as u32)?;
+    say_whether(rt, ", unwritten: ", kept)?;
+    say_number(rt, "; its own block: ", own.number as u32)?;
+    say_code(rt, ", status ", own.status)?;
+    say(rt, "h")?;
     let handed = (own.number == 0) & (own.status == 0x02);
-    end_line((first.number == 105) & (kept & handed))
+    end_line(rt, (first.number == 105) & (kept & handed))
 }
 
 // What a look sees, in words.
-fn say_seen(s: Seen) {
-    say_number(b" ticket ", s.ticket);
-    say_number(b", address ", s.address);
-    say_number(b", callback ", s.callback);
-    say_whether(b", wanted: ", s.wanted);
+fn say_seen(rt: &impl Print, s: Seen) -> io::Result<()> {
+    say_number(rt, " ticket ", s.ticket)?;
+    say_number(rt, ", address ", s.address)?;
+    say_number(rt, ", callback ", s.callback)?;
+    say_whether(rt, ", wanted: ", s.wanted)
 }
 
 // The look saw these.
@@ -345,7 +335,7 @@ fn is_seen(s: Seen, ticket: u32, address: u32, callback: u32, wanted: bool) -> b
 }
 
 // Empty; the first of two finished, with its callback wanted; the second, with its callback disabled, whatever its value.
-fn looks(mem: &mut [u32; WORDS]) -> bool {
+fn looks(rt: &impl Print, mem: &mut [u32; WORDS]) -> io::Result<bool> {
     let mut block = [0u8; 88];
     write_plain(&mut block, 0x10);
     block[29] = 1;
@@ -361,13 +351,13 @@ fn looks(mem: &mut [u32; WORDS]) -> bool {
     let first = seen_of(desk::look(mem));
     hand(mem, &mut block);
     let second = seen_of(desk::look(mem));
-    say_whether(b"look: empty: ", empty.ticket == 0);
-    say(b"; then");
-    say_seen(first);
-    say(b"; then");
-    say_seen(second);
+    say_whether(rt, "look: empty: ", empty.ticket == 0)?;
+    say(rt, "; then")?;
+    say_seen(rt, first)?;
+    say(rt, "; then")?;
+    say_seen(rt, second)?;
     let seen = is_seen(first, 1, 0x1000, 0x100, true) & is_seen(second, 2, 0x1100, 7, false);
-    end_line((empty.ticket == 0) & seen)
+    end_line(rt, (empty.ticket == 0) & seen)
 }
 
 // The CDB of the request that is sent, in its three words; zeros if nothing is.
@@ -386,7 +376,7 @@ fn sent_cdb(mem: &mut [u32; WORDS]) -> [u32; 3] {
 }
 
 // The 12 CDB bytes are sent as they were when the request was taken in, though the block's changed since.
-fn cdb_as_accepted(mem: &mut [u32; WORDS]) -> bool {
+fn cdb_as_accepted(rt: &impl Print, mem: &mut [u32; WORDS]) -> io::Result<bool> {
     let mut block = [0u8; 88];
     write_plain(&mut block, 0x10);
     write_cdb(&mut block, [1, 2, 3, 4, 5, 6, 7, 8, 9, 10, 11, 12]);
@@ -394,15 +384,18 @@ fn cdb_as_accepted(mem: &mut [u32; WORDS]) -> bool {
     take(mem, &mut block, 0);
     write_cdb(&mut block, [0xFF; 12]);
     let c = sent_cdb(mem);
-    say(b"CDB as accepted:");
-    say_word(c[0]);
-    say_word(c[1]);
-    say_word(c[2]);
-    end_line((c[0] == 0x04030201) & ((c[1] == 0x08070605) & (c[2] == 0x0C0B0A09)))
+    say(rt, "CDB as accepted:")?;
+    say_word(rt, c[0])?;
+    say_word(rt, c[1])?;
+    say_word(rt, c[2])?;
+    end_line(
+        rt,
+        (c[0] == 0x04030201) & ((c[1] == 0x08070605) & (c[2] == 0x0C0B0A09)),
+    )
 }
 
 // 7 bytes lent: 15h, and nothing is written. 8 bytes: 15h too, and byte 7 says so, and no other.
-fn few_bytes_lent(mem: &mut [u32; WORDS]) -> bool {
+fn few_bytes_lent(rt: &impl Print, mem: &mut [u32; WORDS]) -> io::Result<bool> {
     let mut seven = [0xA5u8; 7];
     let mut eight = [0xA5u8; 8];
     eight[6] = 0x01;
@@ -414,16 +407,16 @@ fn few_bytes_lent(mem: &mut [u32; WORDS]) -> bool {
     let kept = same_7(&seven, &before);
     let enough = take_8(mem, &mut eight);
     let byte_7_alone = same_8(&eight, &written);
-    say_code(b"lent 7 bytes: ", fewer.number);
-    say_whether(b"h, unwritten: ", kept);
-    say_code(b"; lent 8: ", enough.number);
-    say_whether(b"h, byte 7 alone written: ", byte_7_alone);
+    say_code(rt, "lent 7 bytes: ", fewer.number)?;
+    say_whether(rt, "h, unwritten: ", kept)?;
+    say_code(rt, "; lent 8: ", enough.number)?;
+    say_whether(rt, "h, byte 7 alone written: ", byte_7_alone)?;
     let refused = (fewer.number == 0x15) & (enough.number == 0x15);
-    end_line(refused & (kept & byte_7_alone))
+    end_line(rt, refused & (kept & byte_7_alone))
 }
 
 // 4,097 of 4,096 bytes moved: 52h, and the residual -1 in the block is FF FF FF FF. Of the other bytes none changes.
-fn overrun(mem: &mut [u32; WORDS]) -> bool {
+fn overrun(rt: &impl Print, mem: &mut [u32; WORDS]) -> io::Result<bool> {
     let mut block = [0u8; 88];
     write_plain(&mut block, 0x10);
     desk::fresh(mem);
@@ -442,13 +435,13 @@ fn overrun(mem: &mut [u32; WORDS]) -> bool {
     written[59] = 0xFF;
     let back = hand(mem, &mut block);
     let right = same_88(&block, &written);
-    say_code(b"overrun: status ", back.status);
-    say_code(b"h, bytes 56 to 59 ", block[56]);
-    say_code(b" ", block[57]);
-    say_code(b" ", block[58]);
-    say_code(b" ", block[59]);
-    say_whether(b", the whole block as expected: ", right);
-    end_line((back.status == 0x52) & right)
+    say_code(rt, "overrun: status ", back.status)?;
+    say_code(rt, "h, bytes 56 to 59 ", block[56])?;
+    say_code(rt, " ", block[57])?;
+    say_code(rt, " ", block[58])?;
+    say_code(rt, " ", block[59])?;
+    say_whether(rt, ", the whole block as expected: ", right)?;
+    end_line(rt, (back.status == 0x52) & right)
 }
 
 // ---- the program
@@ -462,21 +455,21 @@ fn count(n: u32, right: bool) -> u32 {
 }
 
 // How many of the eight cases are as expected.
-fn run(mem: &mut [u32; WORDS]) -> u32 {
-    let wrap = count(0, clock_wrap(mem));
-    let last = count(wrap, last_ticket(mem));
-    let short = count(last, too_short(mem));
-    let other = count(short, another_address(mem));
-    let look = count(other, looks(mem));
-    let cdb = count(look, cdb_as_accepted(mem));
-    let few = count(cdb, few_bytes_lent(mem));
-    count(few, overrun(mem))
+fn run(rt: &impl Print, mem: &mut [u32; WORDS]) -> io::Result<u32> {
+    let wrap = count(0, clock_wrap(rt, mem)?);
+    let last = count(wrap, last_ticket(rt, mem)?);
+    let short = count(last, too_short(rt, mem)?);
+    let other = count(short, another_address(rt, mem)?);
+    let look = count(other, looks(rt, mem)?);
+    let cdb = count(look, cdb_as_accepted(rt, mem)?);
+    let few = count(cdb, few_bytes_lent(rt, mem)?);
+    Ok(count(few, overrun(rt, mem)?))
 }
 
 // (Rattle has no exit status: the last line says how many were as expected.)
-fn main() {
+fn main(rt: HostRuntime) -> io::Result<()> {
     let mut mem = [0u32; WORDS];
-    let right = run(&mut mem);
-    say_number(b"as expected: ", right);
-    say(b" of 8\n");
+    let right = run(&rt, &mut mem)?;
+    say_number(&rt, "as expected: ", right)?;
+    say(&rt, " of 8\n")
 }
