@@ -8,6 +8,7 @@ ghost use Rattle.desk_main.specs.Story.{short_read, short_read_handed, short_rea
 
 use board::{Event, HandingBack, Looking, Reporting, Sending, Sense, TakingIn, Ticket, Told, Unit};
 use rows::WORDS;
+use std::io;
 
 // What the host sees in an answer: whether it is a refusal, and its numbers, 0 where it has none.
 #[derive(Clone, Copy)]
@@ -208,32 +209,27 @@ fn story(mem: &mut [u32; WORDS], block: &mut [u8]) -> Outcome
 
 // ---- the program
 
-fn say_number(before: &[u8], n: u32) {
-    io::write_all(1, before);
-    io::print_decimal(1, n as u64);
-}
-
 // One line of what was seen.
-fn say(s: Seen) {
+fn say(rt: &impl Print, s: Seen) -> io::Result<()> {
+    let ticket = s.taken.ticket.0;
+    let looked = s.sent.looked;
     let told = s.handed.told;
-    say_number(b"ticket ", s.taken.ticket.0);
-    say_number(b", sent after looking at ", s.sent.looked as u32);
-    io::write_all(1, b" unit(s), status ");
-    io::print_hex(1, told.status as u64, 2);
-    say_number(b"h, residual ", block::word_of(told.residual));
-    io::write_all(1, b"\n");
+    let status = told.status;
+    let residual = block::word_of(told.residual);
+    println!(rt;
+        "ticket {ticket}, sent after looking at {looked} unit(s), status {status:02X}h, residual {residual}"
+    )
 }
 
-// A desk in the program's own memory, and one read on it. (Rattle has no exit status: the last line says whether all was as expected.)
-fn main() {
+// A desk in the program's own memory, and one read on it. (The last line says whether all was as expected.)
+fn main(rt: HostRuntime) -> io::Result<()> {
     let mut mem = [0u32; WORDS];
     let mut block = [0u8; 88];
     write_read(&mut block);
     let outcome = story(&mut mem, &mut block);
-    say(outcome.seen);
+    say(&rt, outcome.seen)?;
     if outcome.right {
-        io::write_all(1, b"as expected\n");
-    } else {
-        io::write_all(1, b"NOT as expected\n");
+        return rt.println("as expected");
     }
+    rt.println("NOT as expected")
 }

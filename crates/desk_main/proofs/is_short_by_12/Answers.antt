@@ -6,16 +6,12 @@ use mir.Syntax.{w32}
 use mir.Val.{of_z}
 use Rattle.board.specs.Plain.{◌=?◌}
 use Rattle.board.specs.Block.{word}
-use Rattle.desk_main.proofs.is_short_by_12.Statement.{statement}
-use Rattle.desk_main.proofs.is_short_by_12.Tie as tie
+use Rattle.desk_main.proofs.is_short_by_12.Goals as goal
 
 same_word : (z : ℤ) → of_z w32 z ≡ word z
 unfolding word
 same_word (pos n) = refl
 same_word (negsuc n) = refl
 
-returns : tie.Need-returns
-returns c = let x = c.before.before.before.args.told in ap (λ n. x.status =? 0x01 && n =? 12) (same_word x.residual)
-
-pub is-short-by-12-spec : {M : Type 1} → statement M
-is-short-by-12-spec = tie.close (tie.spec returns)
+pub returns : goal.returns
+returns c = let x = c.args.told in ap (λ n. x.status =? 0x01 && n =? 12) (same_word x.residual)
