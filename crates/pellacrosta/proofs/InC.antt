@@ -29,7 +29,7 @@ before : {m' : List ℕ} {r' : Rest} (m n : List ℕ) (r s : Rest) (calls later 
 before m n r s calls later (called c a lent d) x = record { answers = a ∷ x.answers; blocks = lent ∷ x.blocks; session = after m n r s c a lent later x.answers x.blocks d x.session }
 before {m'} {r'} m n r s calls later (refused e q) x = subst (λ (z : List ℕ). DeskSession m' r' z r later) e (subst (λ (z : Rest). DeskSession m' r' n z later) q x)
 
-all_of : {m m' : List ℕ} {r r' : Rest} {calls : List Call} → AllMade m' r' m r calls → DeskSession m' r' m r calls
+all_of : {m' : List ℕ} {r' : Rest} {m : List ℕ} {r : Rest} {calls : List Call} → AllMade m' r' m r calls → DeskSession m' r' m r calls
 all_of in_C_only.over = record { answers = []; blocks = []; session = over }
 all_of (in_C_only.after m n r s calls later x xs) = before m n r s calls later x (all_of xs)
 

@@ -2,4 +2,3 @@
 pub mod Exports
 pub mod Exactly
 pub mod InC
-pub mod Lent

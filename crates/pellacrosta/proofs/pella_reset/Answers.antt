@@ -1,0 +1,10 @@
+-- `pellacrosta::pella_reset` meets its contract. Assumes nothing.
+use mathlib.Core.Path.{refl}
+use Rattle.pellacrosta.proofs.Exports.{refuses, works}
+use Rattle.pellacrosta.proofs.pella_reset.Goals as goal
+
+pub returns-then-words-lt-WORDS : goal.returns-then-words-lt-WORDS
+returns-then-words-lt-WORDS c = refuses c.if-words-lt-WORDS.true (refl, refl)
+
+pub returns : goal.returns
+returns c = works c.if-words-lt-WORDS.false (refl, c.reset.ensures)
