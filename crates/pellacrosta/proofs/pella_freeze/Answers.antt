@@ -2,7 +2,6 @@
 use mathlib.Core.Path.{refl}
 use Rattle.board.proofs.Numbers.{freeze_numbered}
 use Rattle.pellacrosta.proofs.Exports.{refuses, works, freezes_numbered}
-use borrow.Author.Rules.{rules}
 use Rattle.pellacrosta.proofs.pella_freeze.Goals as goal
 
 pub returns-then-words-lt-WORDS : goal.returns-then-words-lt-WORDS

@@ -1,7 +1,6 @@
 -- `pellacrosta::pella_hand_back` meets its contract. Assumes nothing.
 use mathlib.Core.Path.{refl}
 use Rattle.pellacrosta.proofs.Exports.{refuses, works}
-use borrow.Author.Rules.{rules}
 use Rattle.pellacrosta.proofs.pella_hand_back.Goals as goal
 
 pub returns-then-words-lt-WORDS : goal.returns-then-words-lt-WORDS
