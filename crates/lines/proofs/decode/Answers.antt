@@ -21,7 +21,7 @@ hex_digit-requires-in-loop-i c = let o = c.loop-i in hex_at _ _ c.requires.1 (om
 pub loop-i-preserved : goal.loop-i-preserved
 loop-i-preserved c = let l : 2 * c.loop-i.i + 1 < length c.args.s.now = omega arith in (
       omega arith,
-      c.loop-i.invariant.1 ∙ decode_next _ _ _ _ _ l c.hex_digit.ensures.0 c.hex_digit-in-loop-i.ensures.0,
+      c.loop-i.invariant.1 ∙ decode_next _ _ _ _ _ l c.hex_digit.ensures.value c.hex_digit-in-loop-i.ensures.value,
     )
 
 pub returns : goal.returns
