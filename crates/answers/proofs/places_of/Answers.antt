@@ -4,8 +4,6 @@ use native.Mathlib.Omega.{arith}
 use borrow.Author.Rules.{rules}
 use Rattle.answers.proofs.places_of.Goals as goal
 
-)
-
 pub returns : goal.returns
 returns c = (
   places_is _
@@ -19,3 +17,4 @@ returns c = (
       c.place_from-8.ensures.0
       c.place_from-9.ensures.0,
   omega arith,
+)

@@ -14,4 +14,4 @@ returns-in-Taken c = put_as (λ a. print letter.S (taking_in_says a)) c.in-Taken
 
 pub returns-in-Refused : goal.returns-in-Refused
 returns-in-Refused c = put_as (λ a. print letter.S (taking_in_says a)) c.in-Refused.is
-    (put_is (ap (λ (n : ℕ). letter.S ∷ after_tabs (hex n ∷ decimal 0 ∷ [])) c.number_of_lem.ensures) c.line_submitted-in-Refused.ensures)
+    (put_is (ap (λ (n : ℕ). letter.S ∷ after_tabs (hex n ∷ decimal 0 ∷ [])) c.number_of.ensures) c.line_submitted-in-Refused.ensures)
