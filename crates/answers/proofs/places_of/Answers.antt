@@ -1,7 +1,6 @@
 -- `answers::places_of` meets its contract. Assumes nothing.
 use Rattle.answers.proofs.Puts.{places_is}
 use native.Mathlib.Omega.{arith}
-use borrow.Author.Rules.{rules}
 use Rattle.answers.proofs.places_of.Goals as goal
 
 pub returns : goal.returns

@@ -1,7 +1,6 @@
 -- `answers::put_refusal` meets its contract. Assumes nothing.
 use Rattle.answers.proofs.Puts.{put_is, put_most, refusal_code, refusal_more}
 use native.Mathlib.Omega.{arith}
-use borrow.Author.Rules.{rules}
 use Rattle.answers.proofs.put_refusal.Goals as goal
 
 pub returns-then-n-lt100 : goal.returns-then-n-lt100

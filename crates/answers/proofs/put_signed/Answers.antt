@@ -6,7 +6,6 @@ use mir.Facts.{to_z-of_z}
 use mir.Syntax.{w32}
 use mathlib.Core.Path.{sym, ap, ◌∙◌}
 use native.Mathlib.Omega.{arith}
-use borrow.Author.Rules.{rules}
 use Rattle.answers.proofs.put_signed.Goals as goal
 
 pub returns-then-is_negative : goal.returns-then-is_negative

@@ -6,7 +6,6 @@ use Rattle.board.specs.Answers.{taking_in_says}
 use mathlib.Core.Path.{ap}
 use mathlib.Core.List.{◌∷◌, []}
 use Prim.Native.Nat.{ℕ}
-use borrow.Author.Rules.{rules}
 use Rattle.answers.proofs.taking_in.Goals as goal
 
 pub returns-in-Taken : goal.returns-in-Taken

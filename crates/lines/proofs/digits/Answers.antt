@@ -1,10 +1,6 @@
 -- `lines::digits` meets its contract. Assumes nothing.
-use Prim.Native.Nat.{◌≤◌, ◌-◌}
-use mathlib.Core.Path.{◌≡◌, sym, ◌∙◌}
-use borrow.Author.Rules.{rules}
+use mathlib.Core.Path.{sym, ◌∙◌}
 use native.Mathlib.Omega.{arith}
-use lib.ListN.{length, drop}
-use Rattle.lines.specs.Text.{more}
 use Rattle.lines.proofs.Texts.{more_at, more_end, more_next, more_low, more_high, more_big}
 use Rattle.lines.proofs.digits.Goals as goal
 
@@ -19,11 +15,11 @@ returns-then-n-gt4294967295 c = sym (c.loop-i.invariant.2 ∙ more_at _ _ _ _ c.
 
 pub loop-i-preserved : goal.loop-i-preserved
 loop-i-preserved c = (
-      omega arith,
-      omega arith,
-      c.loop-i.invariant.2 ∙ more_at _ _ _ _ c.loop-i-test.true c.wide-c.ensures
-          ∙ more_next _ _ _ c.if-c-lt48.false c.if-c-gt57.false c.if-n-gt4294967295.false,
-    )
+  omega arith,
+  omega arith,
+  c.loop-i.invariant.2 ∙ more_at _ _ _ _ c.loop-i-test.true c.wide-c.ensures
+      ∙ more_next _ _ _ c.if-c-lt48.false c.if-c-gt57.false c.if-n-gt4294967295.false,
+)
 
 pub returns : goal.returns
 returns c = sym (c.loop-i.invariant.2 ∙ more_end _ _ _ c.loop-i-test.false)

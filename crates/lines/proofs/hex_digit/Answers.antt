@@ -1,6 +1,5 @@
 -- `lines::hex_digit` meets its contract. Assumes nothing.
 use Rattle.lines.proofs.Texts.{digit_value}
-use borrow.Author.Rules.{rules}
 use Rattle.lines.proofs.hex_digit.Goals as goal
 
 pub returns : goal.returns

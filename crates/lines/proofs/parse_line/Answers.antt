@@ -2,7 +2,6 @@
 use Rattle.lines.proofs.Overlong.{parse_long}
 use Rattle.lines.proofs.Records.{parse_none, parse_one, parse_bad, parse_tab, letter_block, less_letter, less_malformed, less_record, no_record, same_record}
 use mathlib.Core.Path.{◌∙◌}
-use borrow.Author.Rules.{rules}
 use Rattle.lines.proofs.parse_line.Goals as goal
 
 -- BY HAND slice_bounds_read_block_start

@@ -1,8 +1,6 @@
 -- `lines::read_block` meets its contract. Assumes nothing.
 use mathlib.Core.Path.{sym, ◌∙◌}
-use borrow.Author.Tests.{not-true, not-false}
 use Rattle.lines.proofs.Records.{block_odd, block_bad, block_good, block_record, no_record}
-use borrow.Author.Rules.{rules}
 use Rattle.lines.proofs.read_block.Goals as goal
 
 pub returns-then-s-ne0 : goal.returns-then-s-ne0

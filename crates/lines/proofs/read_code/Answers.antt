@@ -2,7 +2,6 @@
 use Rattle.lines.proofs.Texts.{code_right, code_wrong, code_other}
 use mathlib.Core.Path.{sym, ◌∙◌}
 use Rattle.board.proofs.Choose.{both}
-use borrow.Author.Rules.{rules}
 use Rattle.lines.proofs.read_code.Goals as goal
 
 pub returns-then-s-ne2 : goal.returns-then-s-ne2

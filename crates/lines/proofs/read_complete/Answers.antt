@@ -3,7 +3,6 @@ use Rattle.lines.proofs.Records.{rest_one, rest_many, rest_two}
 use Rattle.lines.specs.Record.{told}
 use lib.Seq.{length-take-le}
 use mathlib.Core.Path.{sym, ap, ◌∙◌}
-use borrow.Author.Rules.{rules}
 use Rattle.lines.proofs.read_complete.Goals as goal
 
 -- BY HAND slice_bounds_after_start

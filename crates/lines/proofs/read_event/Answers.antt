@@ -3,7 +3,6 @@ use Rattle.lines.proofs.Records.{event_one, event_two, event_three, event_more}
 use Rattle.lines.specs.Record.{told}
 use lib.Seq.{length-take-le}
 use mathlib.Core.Path.{sym, ap, ◌∙◌}
-use borrow.Author.Rules.{rules}
 use Rattle.lines.proofs.read_event.Goals as goal
 
 -- BY HAND slice_bounds_second_start
