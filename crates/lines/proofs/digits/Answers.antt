@@ -18,7 +18,7 @@ loop-i-preserved c = (
   omega arith,
   omega arith,
   c.loop-i.invariant.2 ∙ more_at _ _ _ _ c.loop-i-test.true c.wide-c.ensures
-      ∙ more_next _ _ _ c.if-c-lt48.false c.if-c-gt57.false c.if-n-gt4294967295.false,
+      ∙ more_next _ _ _ c.if-c-lt48.false c.if-c-gt57.false (omega arith),
 )
 
 pub returns : goal.returns
