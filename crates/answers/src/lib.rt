@@ -108,6 +108,7 @@ fn put_hex(out: &mut [u8; 64], at: usize, n: u8) -> usize
     at + 2
 }
 
+#[tactic(auto, using(crate::proofs::Puts::refusal_code))]
 fn put_refusal(out: &mut [u8; 64], at: usize, n: u8) -> usize
     requires { at + 10 ≤ 64 }
     ensures { Put 10 out.old out.new at result (refusal n) }

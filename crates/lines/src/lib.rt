@@ -407,6 +407,7 @@ fn followed(c: u8, s: &[u8]) -> Line
 }
 
 // One line, without its line feed, as a record. The bytes of a block go to the start of the lent array.
+#[tactic(auto, using(crate::proofs::Overlong::parse_long))]
 pub fn parse_line(line: &[u8], block: &mut [u8; 200]) -> Line
     ensures { Parsed (parse line.now) block.old block.new result }
 {

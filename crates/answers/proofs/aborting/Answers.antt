@@ -3,7 +3,6 @@ use Rattle.answers.proofs.Puts.{put_as}
 use Rattle.answers.specs.Letters as letter
 use Rattle.answers.specs.Answer.{print}
 use Rattle.board.specs.Answers.{aborting_says}
-use borrow.Author.Rules.{rules}
 use Rattle.answers.proofs.aborting.Goals as goal
 
 pub returns-in-Done : goal.returns-in-Done

@@ -1,6 +1,5 @@
 -- `answers::field_decimal` meets its contract. Assumes nothing.
 use Rattle.answers.proofs.Puts.{put_put, put_one}
-use borrow.Author.Rules.{rules}
 use Rattle.answers.proofs.field_decimal.Goals as goal
 
 pub returns : goal.returns

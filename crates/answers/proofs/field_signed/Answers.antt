@@ -6,7 +6,6 @@ use Rattle.answers.proofs.Puts.{put_put, put_one, put_is}
 use Rattle.answers.specs.Answer.{signed}
 use mathlib.Core.List.{◌∷◌}
 use mathlib.Core.Path.{ap}
-use borrow.Author.Rules.{rules}
 use Rattle.answers.proofs.field_signed.Goals as goal
 
 pub returns : goal.returns

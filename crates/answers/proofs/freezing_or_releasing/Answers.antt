@@ -5,7 +5,6 @@ use Rattle.board.specs.Answers.{freezing_says}
 use mathlib.Core.Path.{ap}
 use mathlib.Core.List.{◌∷◌, []}
 use Prim.Native.Nat.{ℕ}
-use borrow.Author.Rules.{rules}
 use Rattle.answers.proofs.freezing_or_releasing.Goals as goal
 
 pub returns-in-Before : goal.returns-in-Before

@@ -3,7 +3,6 @@ use Rattle.answers.proofs.Puts.{put_as}
 use Rattle.answers.specs.Letters as letter
 use Rattle.answers.specs.Answer.{print}
 use Rattle.board.specs.Answers.{handing_back_says}
-use borrow.Author.Rules.{rules}
 use Rattle.answers.proofs.handing_back.Goals as goal
 
 pub returns-in-Handed : goal.returns-in-Handed

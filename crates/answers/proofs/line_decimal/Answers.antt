@@ -1,7 +1,6 @@
 -- `answers::line_decimal` meets its contract. Assumes nothing.
 use Rattle.answers.proofs.Puts.{put_put, put_one, put_most}
 use native.Mathlib.Omega.{arith}
-use borrow.Author.Rules.{rules}
 use Rattle.answers.proofs.line_decimal.Goals as goal
 
 pub returns : goal.returns

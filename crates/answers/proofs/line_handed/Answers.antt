@@ -12,7 +12,7 @@ use borrow.Author.Rules.{rules}
 use Rattle.answers.proofs.line_handed.Goals as goal
 
 pub returns : goal.returns
-returns c = let back = to_z-of_z {w = w32} {z = c.args.told.residual} (record { sfits = c.struct_told-1.given.1.1.1.0.1 }) in
+returns c = let back = to_z-of_z {w = w32} {z = c.args.told.residual} (search rules) in
     put_most (omega arith)
     (put_put (put_one _ 0 _)
     (put_put c.field_decimal-a.ensures

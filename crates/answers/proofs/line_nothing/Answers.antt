@@ -5,7 +5,6 @@ use mathlib.Core.List.{◌∷◌}
 use mathlib.Core.Path.{ap}
 use Prim.Native.Nat.{ℕ}
 use native.Mathlib.Omega.{arith}
-use borrow.Author.Rules.{rules}
 use Rattle.answers.proofs.line_nothing.Goals as goal
 
 pub returns : goal.returns

@@ -1,7 +1,6 @@
 -- `answers::line_submitted` meets its contract. Assumes nothing.
 use Rattle.answers.proofs.Puts.{put_put, put_one, put_most}
 use native.Mathlib.Omega.{arith}
-use borrow.Author.Rules.{rules}
 use Rattle.answers.proofs.line_submitted.Goals as goal
 
 pub returns : goal.returns

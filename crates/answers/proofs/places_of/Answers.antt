@@ -1,10 +1,7 @@
 -- `answers::places_of` meets its contract. Assumes nothing.
 use Rattle.answers.proofs.Puts.{places_is}
 use native.Mathlib.Omega.{arith}
-use borrow.Author.Rules.{rules}
 use Rattle.answers.proofs.places_of.Goals as goal
-
-)
 
 pub returns : goal.returns
 returns c = (
@@ -19,3 +16,4 @@ returns c = (
       c.place_from-8.ensures.0
       c.place_from-9.ensures.0,
   omega arith,
+)

@@ -1,6 +1,5 @@
 -- `answers::put_decimal` meets its contract. Assumes nothing.
 use Rattle.answers.proofs.Puts.{put_digits}
-use borrow.Author.Rules.{rules}
 use Rattle.answers.proofs.put_decimal.Goals as goal
 
 pub returns : goal.returns

@@ -6,12 +6,11 @@ use mir.Facts.{to_z-of_z}
 use mir.Syntax.{w32}
 use mathlib.Core.Path.{sym, ap, ◌∙◌}
 use native.Mathlib.Omega.{arith}
-use borrow.Author.Rules.{rules}
 use Rattle.answers.proofs.put_signed.Goals as goal
 
 pub returns-then-is_negative : goal.returns-then-is_negative
 returns-then-is_negative c = let back = to_z-of_z {w = w32} {z = c.args.x} c.ranges.x in
-    put_is (signed_below _ _ (sym (c.is_negative.ensures ∙ ap (λ (z : ℤ). lt_z z (pos 0)) back) ∙ c.if-is_negative.true) (c.type_size.ensures ∙ ap nat_abs back))
+    put_is (signed_below _ _ (sym (c.is_negative.ensures ∙ ap (λ (z : ℤ). lt_z z (pos 0)) back) ∙ c.if-is_negative.true) (c.size_of.ensures ∙ ap nat_abs back))
     (put_put (put_one _ _ _) c.put_decimal.ensures)
 
 pub returns : goal.returns

@@ -3,7 +3,6 @@ use Rattle.answers.proofs.Puts.{put_as}
 use Rattle.answers.specs.Letters as letter
 use Rattle.answers.specs.Answer.{print}
 use Rattle.board.specs.Answers.{reporting_says}
-use borrow.Author.Rules.{rules}
 use Rattle.answers.proofs.reporting.Goals as goal
 
 pub returns-in-Ended : goal.returns-in-Ended

@@ -3,7 +3,6 @@ use Rattle.answers.proofs.Puts.{put_as}
 use Rattle.answers.specs.Letters as letter
 use Rattle.answers.specs.Answer.{print}
 use Rattle.board.specs.Answers.{sending_says}
-use borrow.Author.Rules.{rules}
 use Rattle.answers.proofs.sending.Goals as goal
 
 pub returns-in-Sent : goal.returns-in-Sent

@@ -6,7 +6,6 @@ use Rattle.board.specs.Answers.{taking_in_says}
 use mathlib.Core.Path.{ap}
 use mathlib.Core.List.{◌∷◌, []}
 use Prim.Native.Nat.{ℕ}
-use borrow.Author.Rules.{rules}
 use Rattle.answers.proofs.taking_in.Goals as goal
 
 pub returns-in-Taken : goal.returns-in-Taken
@@ -14,4 +13,4 @@ returns-in-Taken c = put_as (λ a. print letter.S (taking_in_says a)) c.in-Taken
 
 pub returns-in-Refused : goal.returns-in-Refused
 returns-in-Refused c = put_as (λ a. print letter.S (taking_in_says a)) c.in-Refused.is
-    (put_is (ap (λ (n : ℕ). letter.S ∷ after_tabs (hex n ∷ decimal 0 ∷ [])) c.number_of_lem.ensures) c.line_submitted-in-Refused.ensures)
+    (put_is (ap (λ (n : ℕ). letter.S ∷ after_tabs (hex n ∷ decimal 0 ∷ [])) c.number_of.ensures) c.line_submitted-in-Refused.ensures)

@@ -1,12 +1,9 @@
 -- `lines::decode` meets its contract. Assumes nothing.
-use lib.ListN.{length, drop}
-use Prim.Native.Nat.{◌≤◌, ◌<◌, ◌-◌, ◌*◌, ◌+◌}
-use Rattle.lines.proofs.Texts.{decode_next, decode_end, hex_at}
+use lib.ListN.{drop}
+use Prim.Native.Nat.{◌≤◌, ◌-◌, ◌*◌}
 use Rattle.lines.specs.Text.{bytes}
 use lib.Seq.{sets}
-use mathlib.Core.Path.{◌≡◌, refl, sym, ◌∙◌}
-use native.Mathlib.Omega.{arith}
-use borrow.Author.Rules.{rules}
+use mathlib.Core.Path.{◌≡◌}
 use Rattle.lines.proofs.decode.Given as goal
 
 abbrev pub invariant-loop-i : goal.invariant-loop-i

@@ -1,32 +1,25 @@
 -- `lines::digits` meets its contract. Assumes nothing.
-use Prim.Native.Nat.{◌≤◌, ◌-◌}
-use mathlib.Core.Path.{◌≡◌, sym, ◌∙◌}
-use borrow.Author.Rules.{rules}
+use mathlib.Core.Path.{sym, ◌∙◌}
 use native.Mathlib.Omega.{arith}
-use lib.ListN.{length, drop}
-use Rattle.lines.specs.Text.{more}
 use Rattle.lines.proofs.Texts.{more_at, more_end, more_next, more_low, more_high, more_big}
 use Rattle.lines.proofs.digits.Goals as goal
 
 pub returns-then-c-lt48 : goal.returns-then-c-lt48
-returns-then-c-lt48 c = let h = w in
-    sym (h.loop.invariant.2 ∙ more_at _ _ _ _ c.loop-i-test.true c.wide-c.ensures ∙ more_low _ _ _ c.if-c-lt48.true)
+returns-then-c-lt48 c = sym (c.loop-i.invariant.2 ∙ more_at _ _ _ _ c.loop-i-test.true c.wide-c.ensures ∙ more_low _ _ _ c.if-c-lt48.true)
 
 pub returns-then-c-gt57 : goal.returns-then-c-gt57
-returns-then-c-gt57 c = let h = w in
-    sym (h.loop.invariant.2 ∙ more_at _ _ _ _ c.loop-i-test.true c.wide-c.ensures ∙ more_high _ _ _ c.if-c-gt57.true)
+returns-then-c-gt57 c = sym (c.loop-i.invariant.2 ∙ more_at _ _ _ _ c.loop-i-test.true c.wide-c.ensures ∙ more_high _ _ _ c.if-c-gt57.true)
 
 pub returns-then-n-gt4294967295 : goal.returns-then-n-gt4294967295
-returns-then-n-gt4294967295 c = let h = w in
-    sym (h.loop.invariant.2 ∙ more_at _ _ _ _ c.loop-i-test.true c.wide-c.ensures ∙ more_big _ _ _ c.if-n-gt4294967295.true)
+returns-then-n-gt4294967295 c = sym (c.loop-i.invariant.2 ∙ more_at _ _ _ _ c.loop-i-test.true c.wide-c.ensures ∙ more_big _ _ _ c.if-n-gt4294967295.true)
 
 pub loop-i-preserved : goal.loop-i-preserved
-loop-i-preserved c = let h = w in (
-      omega arith,
-      omega arith,
-      h.loop.invariant.2 ∙ more_at _ _ _ _ c.loop-i-test.true c.wide-c.ensures
-          ∙ more_next _ _ _ c.if-c-lt48.false c.if-c-gt57.false c.if-n-gt4294967295.false,
-    )
+loop-i-preserved c = (
+  omega arith,
+  omega arith,
+  c.loop-i.invariant.2 ∙ more_at _ _ _ _ c.loop-i-test.true c.wide-c.ensures
+      ∙ more_next _ _ _ c.if-c-lt48.false c.if-c-gt57.false (omega arith),
+)
 
 pub returns : goal.returns
 returns c = sym (c.loop-i.invariant.2 ∙ more_end _ _ _ c.loop-i-test.false)

@@ -1,11 +1,8 @@
 -- `lines::digits` meets its contract. Assumes nothing.
 use Prim.Native.Nat.{◌≤◌, ◌-◌}
-use mathlib.Core.Path.{◌≡◌, sym, ◌∙◌}
-use borrow.Author.Rules.{rules}
-use native.Mathlib.Omega.{arith}
+use mathlib.Core.Path.{◌≡◌}
 use lib.ListN.{length, drop}
 use Rattle.lines.specs.Text.{more}
-use Rattle.lines.proofs.Texts.{more_at, more_end, more_next, more_low, more_high, more_big}
 use Rattle.lines.proofs.digits.Given as goal
 
 abbrev pub invariant-loop-i : goal.invariant-loop-i

@@ -2,7 +2,6 @@
 use Rattle.lines.proofs.Records.{letter_event, letter_number}
 use Rattle.lines.specs.Record.{told}
 use mathlib.Core.Path.{sym, ap, ◌∙◌}
-use borrow.Author.Rules.{rules}
 use Rattle.lines.proofs.followed.Goals as goal
 
 pub returns-then-c-eq69 : goal.returns-then-c-eq69

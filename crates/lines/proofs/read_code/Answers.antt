@@ -2,7 +2,6 @@
 use Rattle.lines.proofs.Texts.{code_right, code_wrong, code_other}
 use mathlib.Core.Path.{sym, ◌∙◌}
 use Rattle.board.proofs.Choose.{both}
-use borrow.Author.Rules.{rules}
 use Rattle.lines.proofs.read_code.Goals as goal
 
 pub returns-then-s-ne2 : goal.returns-then-s-ne2
@@ -16,7 +15,7 @@ hex_digit-requires-then-is_hex c = sym c.is_hex-2.ensures ∙ (both c.is_hex.res
 
 pub returns-then-is_hex : goal.returns-then-is_hex
 returns-then-is_hex c = code_right _ _ _ _ _ c.if-s-ne2.false c.is_hex.ensures c.is_hex-2.ensures c.if-is_hex.true
-    c.hex_digit.ensures.0 c.hex_digit-then-is_hex.ensures.0
+    c.hex_digit.ensures.value c.hex_digit-then-is_hex.ensures.value
 
 pub returns-else-is_hex : goal.returns-else-is_hex
 returns-else-is_hex c = code_wrong _ _ _ c.if-s-ne2.false c.is_hex.ensures c.is_hex-2.ensures c.if-is_hex.false

@@ -3,16 +3,7 @@ use Rattle.lines.proofs.Records.{rest_one, rest_many, rest_two}
 use Rattle.lines.specs.Record.{told}
 use lib.Seq.{length-take-le}
 use mathlib.Core.Path.{sym, ap, ◌∙◌}
-use borrow.Author.Rules.{rules}
 use Rattle.lines.proofs.read_complete.Goals as goal
-
--- BY HAND slice_bounds_after_start
--- part-after-start : tie.Need-slice-bounds-after-start
--- part-after-start c = search rules
-
--- BY HAND slice_bounds_after_end
--- part-after-end : tie.Need-slice-bounds-after-end
--- part-after-end c = search rules
 
 pub returns-then-s-a : goal.returns-then-s-a
 returns-then-s-a c = sym (ap told (rest_one _ _ c.cut-a.ensures _ _ _ c.if-s-a.true))

@@ -3,32 +3,7 @@ use Rattle.lines.proofs.Records.{event_one, event_two, event_three, event_more}
 use Rattle.lines.specs.Record.{told}
 use lib.Seq.{length-take-le}
 use mathlib.Core.Path.{sym, ap, ◌∙◌}
-use borrow.Author.Rules.{rules}
 use Rattle.lines.proofs.read_event.Goals as goal
-
--- BY HAND slice_bounds_second_start
--- part-second-start : tie.Need-slice-bounds-second-start
--- part-second-start c = search rules
-
--- BY HAND slice_bounds_second_end
--- part-second-end : tie.Need-slice-bounds-second-end
--- part-second-end c = search rules
-
--- BY HAND slice_bounds_third_start
--- part-third-start : tie.Need-slice-bounds-third-start
--- part-third-start c = search rules
-
--- BY HAND slice_bounds_third_end
--- part-third-end : tie.Need-slice-bounds-third-end
--- part-third-end c = search rules
-
--- BY HAND slice_bounds_read_complete_start
--- part-read-complete-start : tie.Need-slice-bounds-read-complete-start
--- part-read-complete-start c = search rules
-
--- BY HAND slice_bounds_read_complete_end
--- part-read-complete-end : tie.Need-slice-bounds-read-complete-end
--- part-read-complete-end c = search rules
 
 pub returns-then-s-a : goal.returns-then-s-a
 returns-then-s-a c = sym (ap told (event_one _ _ c.cut-a.ensures c.if-s-a.true))

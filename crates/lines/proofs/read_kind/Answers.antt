@@ -3,7 +3,6 @@ use Rattle.lines.proofs.Texts.{kind_one, kind_other}
 use Rattle.lines.specs.Record.{code_kind}
 use borrow.Author.Tests.{eq-eqb, ne_eqb}
 use mathlib.Core.Path.{sym, ap, ◌∙◌}
-use borrow.Author.Rules.{rules}
 use Rattle.lines.proofs.read_kind.Goals as goal
 
 pub returns-then-a-eq75 : goal.returns-then-a-eq75

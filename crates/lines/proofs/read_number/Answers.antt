@@ -1,7 +1,6 @@
 -- `lines::read_number` meets its contract. Assumes nothing.
 use Rattle.lines.proofs.Texts.{number_none, number_zero, number_lead, number_rest}
 use mathlib.Core.Path.{◌∙◌}
-use borrow.Author.Rules.{rules}
 use Rattle.lines.proofs.read_number.Goals as goal
 
 pub returns-then-s-eq0 : goal.returns-then-s-eq0

@@ -3,7 +3,6 @@ use Rattle.lines.proofs.Texts.{sense_one, sense_other}
 use Rattle.lines.specs.Record.{sense_bytes}
 use borrow.Author.Tests.{eq-eqb, ne_eqb}
 use mathlib.Core.Path.{sym, ap, ◌∙◌}
-use borrow.Author.Rules.{rules}
 use Rattle.lines.proofs.read_sense.Goals as goal
 
 pub returns-then-a-eq88 : goal.returns-then-a-eq88
