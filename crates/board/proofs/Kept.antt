@@ -13,7 +13,7 @@ use Rattle.board.specs.Board.{same_unit, at, units, find, without, by_ticket, ti
 use Rattle.board.specs.Answers.{Answer, taken, sent, done, handed}
 use Rattle.board.specs.TakingIn.{joined}
 use Rattle.board.specs.Sending.{sent_from}
-use Rattle.board.specs.Ending.{end_unmoved, told, ended_active}
+use Rattle.board.specs.Ending.{end_unmoved, ended_active}
 use Rattle.board.specs.Calls.{ended_waiting, all_ended, Call}
 use Rattle.board.specs.Demand3.{given_by, handed_by}
 use Rattle.board.proofs.Choose.{if_ind, same, one_unit}
