@@ -1,5 +1,5 @@
 -- The definitions give document 01's example. Assumes nothing.
-use mathlib.Core.Path.{◌≡◌, refl}
+use mathlib.Core.Path.{refl}
 use Rattle.board.proofs.Open.{all}
 use Rattle.lines.specs.Text.{onto, fields, more, number}
 use Rattle.lines.specs.Record.{numbered, by_letter, record_of, parse}

@@ -2,7 +2,6 @@
 use mathlib.Core.Path.{refl, sym}
 use lib.Seq.{length-take-le}
 use Rattle.replay_log.proofs.Replying.{as_read, block_fits, block_short}
-use borrow.Author.Rules.{rules}
 use Rattle.replay_log.proofs.answer_line.Goals as goal
 
 pub slice_bounds-block-end : goal.slice_bounds-block-end
