@@ -150,7 +150,7 @@ alike_finished s k l (c ∷ cs) a = go (c =? 10) (alike_finished s (k ++ (c ∷ 
 
 -- ---- the whole log
 
-through : {m m' : Memory} {left left' : List ℕ} {pieces texts : List (List ℕ)} (last : List ℕ) → Holds m → Quiet left → Through m' left' m left pieces texts → Ends m' left' last
+through : {m' : Memory} {left' : List ℕ} {m : Memory} {left : List ℕ} {pieces texts : List (List ℕ)} (last : List ℕ) → Holds m → Quiet left → Through m' left' m left pieces texts → Ends m' left' last
     → joined texts ++ last ≡ finished (fed (shown m) left (joined pieces))
 unfolding joined fed
 through last h q start e = e h

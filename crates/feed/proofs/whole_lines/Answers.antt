@@ -1,22 +1,12 @@
 -- `feed::whole_lines` meets its contract. After each turn the whole is the answers so far and then the rest. Assumes nothing.
-use Prim.Native.Nat.{ℕ, ◌*◌, ◌-◌, ◌<◌, ◌≤◌}
+use Prim.Native.Nat.{ℕ, ◌<◌}
 use native.Mathlib.Omega.{arith}
-use mathlib.Core.Path.{◌≡◌, refl, ◌∙◌, subst}
-use lib.ListN.{length, take}
-use Rattle.replay_log.specs.Memory.{memory}
-use Rattle.feed.specs.LineEnds.{Clear, SoFar}
+use mathlib.Core.Path.{refl, ◌∙◌, subst}
+use lib.ListN.{length}
+use Rattle.feed.specs.LineEnds.{Clear}
 use Rattle.feed.proofs.Clears.{clear_none}
 use Rattle.feed.proofs.Lining.{none_yet, one_more}
-use borrow.Author.Rules.{rules}
 use Rattle.feed.proofs.whole_lines.Goals as goal
-
--- BY HAND slice_bounds_append_start
--- part-append-start : tie.Need-slice-bounds-append-start invariant-loop decreases-loop
--- part-append-start c = let e = c.before.find.ensures in e.skipped.low
-
--- BY HAND slice_bounds_append_end
--- part-append-end : tie.Need-slice-bounds-append-end invariant-loop decreases-loop
--- part-append-end c = let e = c.before.find.ensures in e.skipped.within
 
 pub loop-at-init : goal.loop-at-init
 loop-at-init c = (omega arith, omega arith, refl, none_yet _ _ c.args.out.now)
@@ -24,7 +14,7 @@ loop-at-init c = (omega arith, omega arith, refl, none_yet _ _ c.args.out.now)
 pub returns-then-e-s : goal.returns-then-e-s
 returns-then-e-s c = let o = c.loop-at in
     let e = c.find-e.ensures in
-    (o.invariant.3, (o.invariant.0, subst (λ (k : ℕ). Clear c.args.s.now o.at k) c.if-e-s.true e.skipped.none, o.invariant.1))
+    record { so_far = o.invariant.3; at_in_bounds = (o.invariant.0, subst (λ (k : ℕ). Clear c.args.s.now o.at k) c.if-e-s.true e.skipped.none, o.invariant.1) }
 
 pub append-reply-requires : goal.append-reply-requires
 append-reply-requires c = let o = c.loop-at in
@@ -52,4 +42,4 @@ loop-at-preserved c = let o = c.loop-at in
     )
 
 pub returns : goal.returns
-returns c = let o = c.loop-at in (o.invariant.3, (o.invariant.0, clear_none _ _ _ (omega arith), o.invariant.1))
+returns c = let o = c.loop-at in record { so_far = o.invariant.3; at_in_bounds = (o.invariant.0, clear_none _ _ _ (omega arith), o.invariant.1) }

@@ -1,13 +1,9 @@
 -- `feed::whole_lines` meets its contract. After each turn the whole is the answers so far and then the rest. Assumes nothing.
-use Prim.Native.Nat.{ℕ, ◌*◌, ◌-◌, ◌<◌, ◌≤◌}
-use native.Mathlib.Omega.{arith}
-use mathlib.Core.Path.{◌≡◌, refl, ◌∙◌, subst}
+use Prim.Native.Nat.{◌*◌, ◌-◌, ◌≤◌}
+use mathlib.Core.Path.{◌≡◌}
 use lib.ListN.{length, take}
 use Rattle.replay_log.specs.Memory.{memory}
-use Rattle.feed.specs.LineEnds.{Clear, SoFar}
-use Rattle.feed.proofs.Clears.{clear_none}
-use Rattle.feed.proofs.Lining.{none_yet, one_more}
-use borrow.Author.Rules.{rules}
+use Rattle.feed.specs.LineEnds.{SoFar}
 use Rattle.feed.proofs.whole_lines.Given as goal
 
 abbrev pub invariant-loop-at : goal.invariant-loop-at
