@@ -10,7 +10,7 @@ use Rattle.feed.specs.Feeding.{Feeds, Through, start, turn}
 use Rattle.replay.specs.Progress.{Progress}
 
 -- one turn more at the end
-one_more : {m n first : Memory} {left left' begun text : List ℕ} {pieces texts : List (List ℕ)} (piece : List ℕ) → Through m left first begun pieces texts → Feeds m n (left ++ piece) left' text
+one_more : {m n : Memory} {left left' begun text : List ℕ} {first : Memory} {pieces texts : List (List ℕ)} (piece : List ℕ) → Through m left first begun pieces texts → Feeds m n (left ++ piece) left' text
     → Through n left' first begun (pieces ++ (piece ∷ [])) (texts ++ (text ∷ []))
 one_more piece start f = turn _ _ _ _ _ _ [] [] f start
 one_more piece (turn m n left kept earlier text pieces texts g more) f = turn m n left kept earlier text _ _ g (one_more piece more f)
