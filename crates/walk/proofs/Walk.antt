@@ -38,8 +38,7 @@ pub use prog.Wp.{Heap, Calls, Loops, WpFn}
 pub use ghost.Atoms.{Atoms, meaning}
 use types.Logic.{Logic, sem}
 pub use contract.Monad.{Fun}
-pub use contract.Running.{given_of}
-pub use types.Kit.{Given, ‵, raw, ◌⊛◌, ◌$◌, ◌∵◌, !, qed, move, drop, split, join, fsplit, fjoin, use2}
+pub use types.Kit.{‵, raw, ◌⊛◌, ◌$◌, ◌∵◌, !, qed, move, drop, split, join, fsplit, fjoin, use2}
 pub use types.Run.{look, init, stop, hop, fld, from, load, lit, addr, bin, of_opd, and_then, no_more, land, assigns, returns, returns_within, enter, params1, pass1, pass0, free0, free1}
 pub use types.Part.{agg, whole, sub, look_in, store_in}
 pub use sound.WpLaws.{FmC}
@@ -55,17 +54,16 @@ pub use denote.Triple.Statement.{Triple}
 pub use denote.Triple.Table.{cited}
 pub use denote.Triple.Walked.{Stays, stay_ref, gave_ref, stay_none, stay_dropped, walk_of, Goes-ref, Goes-gave_ref, Goes-none, Goes-dropped}
 -- ---- what this file cites besides
-use denote.Ref.{mut_at}
 use mathlib.Core.Path.{sym, subst}
 use mathlib.Core.Bool.{Bool, not}
 use lib.Dec.{T}
 use Prim.Native.Nat.{zero}
-use seplogic.Ra.TreeShare.{full_share}
+use base.Fraction.{full_share}
 use mir.Syntax.{Fn, Ty, Lifetime, Local, local, Place, place, Body as Code, Opd as Operand, copy, seq, skip, cond, call}
 use base.Logic.{sep, comm∗, mono∗, mono_r, assoc', emp∗}
 use base.Fml.{Fml, fsep, fres, flent, fobs, fauth, fobor, fat, froom, fdies}
 use prog.Model.{Model}
-use prog.Routine.{Name, Env as Routines}
+use prog.Routine.{Callee, Env as Routines}
 use prog.Wp.{Env, Closed, spot_of, Wp, after_seq}
 use contract.Monad.{fact}
 use contract.Lifetimes.{Lfts, Shares, AllOutlive}
@@ -152,7 +150,7 @@ module _ {M : Type 1} {𝓤 : Ura M} {𝓛 : Logic 𝓤} {K : Type 0} where
 
   -- a `&mut` that is still owned is given up
   pub gives_up : K → {Γ : List (Item 𝓤)} {G : Goal 𝓤 H} (ℓ : Lifetime) (κ : Lft) (R : RattleType) (x : MutBor R.Denot) (vs : List Val) → Step K 𝓛 (‵ (fres x.ghost_name (R.coded.code x.now)) ∷ Γ) G (‵ ((MutRef ℓ κ R).own_val x vs) ∷ Γ) G
-  gives_up t ℓ κ R x vs = step (λ s. fsplit3 t $ move t (1 ∷ []) $ use1 𝓛 (‵ (fres x.ghost_name (R.coded.code x.now))) (𝓛.names.obs_res x.ghost_name (R.coded.code x.now)) $ move t (1 ∷ 2 ∷ []) $ drop t $ drop t $ s)
+  gives_up t ℓ κ R x vs = step (λ s. fsplit3 t $ move t (1 ∷ []) $ use1 𝓛 (‵ (fres x.ghost_name (R.coded.code x.now))) (𝓛.names.obs-res x.ghost_name (R.coded.code x.now)) $ move t (1 ∷ 2 ∷ []) $ drop t $ drop t $ s)
 
 -- ---- a `&mut S`
 module _ (D : Declared) (L : LL.Laws D) where
@@ -195,7 +193,7 @@ module _ (D : Declared) (L : LL.Laws D) where
         move t (1 ∷ []) $ peeks t (row D) (Is (row D)) (shows 𝓛 (row D)) h (LL.vals D L h) (λ is. drop t $ use1 𝓛 (‵ (fat full_share (layout (shape D)) l zero (LL.val D L h))) (𝓛.laws.raw_at full_share (layout (shape D)) l zero (LL.val D L h)) $ k is))
 
 -- ---- a call
-module _ {M : Type 1} {𝓤 : Ura M} {𝓛 : Logic 𝓤} {K : Type 0} {Γ : List (Item 𝓤)} {E : Env 𝓤 𝓛.H} {C : Calls 𝓤 𝓛.H} {Λ : Loops 𝓤 𝓛.H} {p : Post 𝓤 𝓛.H} {f : Name} {xs : List Operand} {d : Place} {rest : Code} where
+module _ {M : Type 1} {𝓤 : Ura M} {𝓛 : Logic 𝓤} {K : Type 0} {Γ : List (Item 𝓤)} {E : Env 𝓤 𝓛.H} {C : Calls 𝓤 𝓛.H} {Λ : Loops 𝓤 𝓛.H} {p : Post 𝓤 𝓛.H} {f : Callee} {xs : List Operand} {d : Place} {rest : Code} where
   open 𝓛 use {H}
 
   pub calls_of : K → FmC 𝓤 H 𝓛.laws C → (T : Ended) (c : Clauses 𝓤 T) → Triple 𝓤 (C f) (triple_of 𝓛 T.signature (closing 𝓛 T c)) → (y : (triple_of 𝓛 T.signature (closing 𝓛 T c)).Ghost)
@@ -260,7 +258,7 @@ module _ {M : Type 1} {𝓤 : Ura M} {𝓛 : Logic 𝓤} {K : Type 0} {Γ : List
       frame t $ frame t $ owned t (type_at T.signature.result y.0.0) (Is (type_at T.signature.result y.0.0)) mk r (v ∷ []) is $ keep t (0 ∷ []) $ done t
 
 -- ---- from the walk to the statement
-module _ {M : Type 1} {𝓤 : Ura M} (𝓛 : Logic 𝓤) (𝓜 : Model 𝓤 𝓛.H) (𝓡 : Running 𝓤 𝓛.H 𝓜) (T : Ended) (hs : Stays T.signature.params T.kept) (c : Clauses 𝓤 T) (env : Routines) (key : Name) (F : Fn) where
+module _ {M : Type 1} {𝓤 : Ura M} (𝓛 : Logic 𝓤) (𝓜 : Model 𝓤 𝓛.H) (𝓡 : Running 𝓤 𝓛.H 𝓜) (T : Ended) (hs : Stays T.signature.params T.kept) (c : Clauses 𝓤 T) (env : Routines) (key : Callee) (F : Fn) where
   open 𝓛 use {H}
 
   abbrev S : Signature
