@@ -1,7 +1,6 @@
 -- What a hand_back does to the lent block. Assumes nothing.
-use Rattle.std.specs.Prelude.{◌≡◌, Bool, not, List, ℕ}
+use Rattle.std.specs.Prelude.{◌≡◌, Bool, not, List, ℕ, if◌then◌else◌}
 use Rattle.board.specs.declared.Finished.{Finished}
-use Rattle.board.specs.Plain.{if◌then◌else◌}
 use Rattle.board.specs.Block.{with_told}
 use Rattle.board.specs.Calls.{not_its_block}
 

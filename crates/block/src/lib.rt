@@ -2,8 +2,8 @@
 // any number of bytes; none past them is read or written.
 #![tactic(auto)]
 
-ghost use Rattle.std.specs.Prelude.{◌≡◌, ◌+◌, ◌<◌, ◌≤◌, ◌/◌, ◌%◌, length};
-ghost use Rattle.board.specs.Plain.{◌=?◌, if◌then◌else◌, first_that_applies};
+ghost use Rattle.std.specs.Prelude.{◌≡◌, ◌+◌, ◌<◌, ◌≤◌, ◌/◌, ◌%◌, length, if◌then◌else◌};
+ghost use Rattle.board.specs.Plain.{◌=?◌, first_that_applies};
 ghost use Rattle.board.specs.Block.{byte, two, four, word, signed, whole_block, fields, request, with_status, with_told};
 ghost use Rattle.board.specs.Answers.{number};
 ghost use Rattle.board.specs.TakingIn.{refuse, accept};

@@ -1,5 +1,6 @@
 -- Only one answer of the code says a given answer of the definitions: a promise that fixes what the answer says fixes the
 -- answer. Assumes nothing.
+use Rattle.std.specs.Prelude.{if◌then◌else◌}
 use mathlib.Core.Path.{◌≡◌, refl, ap}
 use mathlib.Core.Bool.{false}
 use Prim.Native.Nat.{ℕ}
@@ -11,7 +12,7 @@ use Rattle.board.specs.declared.Aborting.TheVariants as aborting
 use Rattle.board.specs.declared.Freezing.TheVariants as freezing
 use Rattle.board.specs.declared.Looking.TheVariants as looking
 use Rattle.board.specs.declared.HandingBack.TheVariants as handing_back
-use Rattle.board.specs.Plain.{if◌then◌else◌, ◌=?◌}
+use Rattle.board.specs.Plain.{◌=?◌}
 use Rattle.board.specs.Answers.{refused, number, taking_in_says, sending_says, reporting_says, aborting_says, freezing_says, looking_says, handing_back_says}
 use Rattle.board.proofs.Choose.{differ}
 

@@ -1,4 +1,5 @@
 -- Choices and tests: what a test that passed or failed tells. Assumes nothing.
+use Rattle.std.specs.Prelude.{if◌then◌else◌}
 use mathlib.Core.Path.{◌≡◌, refl, sym, ap, subst}
 use mathlib.Core.Logic.{◌≢◌}
 use mathlib.Core.Bool.{Bool, true, false, not, ◌||◌, ◌&&◌}
@@ -7,7 +8,7 @@ use Prim.Native.Nat.{ℕ, ◌≤◌, ◌<◌}
 use native.Mathlib.Omega.{arith}
 use lib.Dec.{T, eqb, eqb→eq, eqb_refl, T_not, ltb→lt, nltb→le, leb→le, nleb→lt}
 use Rattle.board.specs.Types.{Ticket, Unit}
-use Rattle.board.specs.Plain.{if◌then◌else◌, ◌=?◌, ◌<?◌, ◌≤?◌}
+use Rattle.board.specs.Plain.{◌=?◌, ◌<?◌, ◌≤?◌}
 use Rattle.board.specs.Board.{the_unit, the_ticket, same_unit, at}
 
 -- to show something of a choice, show it of each side, with what the test says there

@@ -1,5 +1,6 @@
 -- What every move keeps: the live requests, weighed by anything, change by the one that came and the one that went; what waits
 -- waits on its own unit; a ticket that is given is the next one. Assumes nothing.
+use Rattle.std.specs.Prelude.{if◌then◌else◌}
 use mathlib.Core.Path.{◌≡◌, refl, sym, ◌∙◌, ap, subst}
 use mathlib.Core.Bool.{Bool, true, false}
 use mathlib.Core.Option.{some}
@@ -8,7 +9,7 @@ use Prim.Native.Nat.{ℕ, ◌+◌, ◌<◌}
 use native.Mathlib.Omega.{arith}
 use lib.ListN.{length}
 use Rattle.board.specs.Types.{Unit, Request, Active, Finished, End}
-use Rattle.board.specs.Plain.{if◌then◌else◌, Each}
+use Rattle.board.specs.Plain.{Each}
 use Rattle.board.specs.Board.{same_unit, at, units, find, without, by_ticket, ticket_of_active, Board, all_waiting, live, with_active, with_finished}
 use Rattle.board.specs.Answers.{Answer, taken, sent, done, handed}
 use Rattle.board.specs.TakingIn.{joined}

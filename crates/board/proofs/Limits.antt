@@ -1,4 +1,5 @@
 -- The limits hold of every board that calls make of a fresh one. Assumes nothing.
+use Rattle.std.specs.Prelude.{if◌then◌else◌}
 use mathlib.Core.Path.{◌≡◌, refl, sym, ◌∙◌, ap, subst}
 use mathlib.Core.Bool.{Bool, true, false, not, ◌||◌, ◌&&◌}
 use mathlib.Core.List.{List, [], ◌∷◌, ◌++◌}
@@ -8,7 +9,7 @@ use native.Mathlib.Omega.{arith}
 use lib.Dec.{lit<}
 use lib.ListN.{length}
 use Rattle.board.specs.Types.{Ticket, Unit, Request, Active, Finished, End}
-use Rattle.board.specs.Plain.{if◌then◌else◌, ◌=?◌, ◌<?◌, Each}
+use Rattle.board.specs.Plain.{◌=?◌, ◌<?◌, Each}
 use Rattle.board.specs.Board.{same_unit, same_ticket, at, units, by_ticket, ticket_of_active, data_length, places, most_active, last_ticket, Board, fresh, frozen, live, with_active}
 use Rattle.board.specs.Answers.{Answer}
 use Rattle.board.specs.TakingIn.{address_held, joined}

@@ -1,11 +1,12 @@
 -- A send does not see the frozen units' waiting requests. Assumes nothing.
+use Rattle.std.specs.Prelude.{if◌then◌else◌}
 use mathlib.Core.Path.{◌≡◌, refl, sym, ◌∙◌, ap, subst, fun_ext}
 use mathlib.Core.Bool.{Bool, true, false, not, ◌&&◌}
 use mathlib.Core.List.{List, [], ◌∷◌, ◌++◌}
 use Prim.Native.Nat.{ℕ}
 use lib.ListN.{length}
 use Rattle.board.specs.Types.{Unit, Request, Rotation, Found, Nobody}
-use Rattle.board.specs.Plain.{if◌then◌else◌, ◌≤?◌}
+use Rattle.board.specs.Plain.{◌≤?◌}
 use Rattle.board.specs.Board.{same_unit, at, units, most_active, Board, frozen}
 use Rattle.board.specs.Answers.{nothing, Stepped, says}
 use Rattle.board.specs.Sending.{waits, busy, eligible, rotation, sent_first, sent_by, sending}

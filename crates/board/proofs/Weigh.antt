@@ -1,5 +1,6 @@
 -- Lists weighed by a number for each element, and what the list operations of specs/ do to the weight. A count and a length
 -- are weights, so what is proved of every weight is proved of both. Assumes nothing.
+use Rattle.std.specs.Prelude.{if◌then◌else◌}
 use mathlib.Core.Path.{◌≡◌, refl, sym, ◌∙◌, ap, subst}
 use mathlib.Core.Logic.{◌⊎◌, inl, inr, ◌≢◌}
 use mathlib.Core.Bool.{Bool, true, false, ◌||◌}
@@ -9,7 +10,7 @@ use Prim.Native.Nat.{ℕ, zero, suc, ◌+◌, ◌≤◌, ◌<◌}
 use native.Mathlib.Omega.{arith}
 use lib.ListN.{length}
 use Rattle.board.specs.Types.{Ticket, Unit}
-use Rattle.board.specs.Plain.{if◌then◌else◌, ◌<?◌, any, count, Each}
+use Rattle.board.specs.Plain.{◌<?◌, any, count, Each}
 use Rattle.board.specs.Board.{the_unit, same_unit, same_ticket, at, of_units, find, without, insert, by_ticket}
 use Rattle.board.proofs.Choose.{if_ind, both_ifs, none≢some, same, differ, neither, or_swap, one_unit, one_ticket}
 

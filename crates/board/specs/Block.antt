@@ -1,10 +1,10 @@
 -- The block, Table 20 of source document 000: which bytes hold what, what the board needs of them, and what is written.
 -- A block is the list of the bytes lent; numbers are little-endian. (Past the end a byte counts as 0 here; the checks see
 -- to it that no such byte decides anything.) Assumes nothing.
-use Rattle.std.specs.Prelude.{Bool, not, List, [], ◌∷◌, ◌++◌, ℕ, suc, ◌+◌, ◌*◌, ◌-◌, ◌/◌, ◌%◌, ◌^◌, length, get_or, set, ℤ, pos, negsuc}
+use Rattle.std.specs.Prelude.{Bool, not, List, [], ◌∷◌, ◌++◌, ℕ, suc, ◌+◌, ◌*◌, ◌-◌, ◌/◌, ◌%◌, ◌^◌, length, get_or, set, ℤ, pos, negsuc, if◌then◌else◌}
 use Rattle.std.proofs.lemmas.List.Edits.{sets}
 use Rattle.board.specs.Types.{Ticket, Cdb, Request, Told}
-use Rattle.board.specs.Plain.{if◌then◌else◌, ◌=?◌, ◌<?◌}
+use Rattle.board.specs.Plain.{◌=?◌, ◌<?◌}
 use Rattle.board.specs.Board.{unit_of}
 
 -- ---- numbers in a block

@@ -1,8 +1,8 @@
 -- What the board holds. Assumes nothing.
-use Rattle.std.specs.Prelude.{Bool, true, false, List, [], ◌∷◌, ◌++◌, map, ℕ, zero, suc, ◌+◌, ◌*◌}
+use Rattle.std.specs.Prelude.{Bool, true, false, List, [], ◌∷◌, ◌++◌, map, ℕ, zero, suc, ◌+◌, ◌*◌, if◌then◌else◌}
 use Rattle.std.proofs.Math.Option.{Option, none, some}
 use Rattle.board.specs.Types.{Ticket, Unit, Request, Active, Finished}
-use Rattle.board.specs.Plain.{if◌then◌else◌, ◌=?◌, ◌<?◌}
+use Rattle.board.specs.Plain.{◌=?◌, ◌<?◌}
 
 -- ---- units and tickets
 

@@ -1,8 +1,8 @@
 -- The other calls, and all of them together: `step` and `run`. Assumes nothing.
-use Rattle.std.specs.Prelude.{Bool, not, ◌&&◌, ◌||◌, List, [], ◌∷◌, map, ℕ, suc, ◌+◌, ◌-◌, ◌%◌, ◌^◌, length}
+use Rattle.std.specs.Prelude.{Bool, not, ◌&&◌, ◌||◌, List, [], ◌∷◌, map, ℕ, suc, ◌+◌, ◌-◌, ◌%◌, ◌^◌, length, if◌then◌else◌}
 use Rattle.std.proofs.Math.Option.{Option, none, some}
 use Rattle.board.specs.Types.{Ticket, Unit, Request, Active, Finished, Event}
-use Rattle.board.specs.Plain.{if◌then◌else◌, ◌=?◌, ◌<?◌}
+use Rattle.board.specs.Plain.{◌=?◌, ◌<?◌}
 use Rattle.board.specs.Board.{same_ticket, units, find, without, by_ticket, ticket_of_active, Freeze, freeze_number, one_freeze, one_release, Board, frozen, all_waiting, with_waiting, with_active, with_finished, with_freeze, with_clock}
 use Rattle.board.specs.Block.{whole_block, four, with_told}
 use Rattle.board.specs.Answers.{Answer, refused, done, before, time, first, empty, handed, Stepped, says}

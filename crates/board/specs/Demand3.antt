@@ -1,9 +1,9 @@
 -- Demand 3: what is said of every run of calls on a fresh board, and of every freeze, release and send. proofs/Demand3.antt proves
 -- it. Assumes nothing.
-use Rattle.std.specs.Prelude.{◌≡◌, ◌≢◌, true, false, List, [], ◌∷◌, ◌++◌, map, ℕ, ◌+◌, ◌≤◌, ◌<◌, length}
+use Rattle.std.specs.Prelude.{◌≡◌, ◌≢◌, true, false, List, [], ◌∷◌, ◌++◌, map, ℕ, ◌+◌, ◌≤◌, ◌<◌, length, if◌then◌else◌}
 use Rattle.std.proofs.Math.Option.{some}
 use Rattle.board.specs.Types.{Ticket, Unit, Cdb, Active, Event, End, Ended}
-use Rattle.board.specs.Plain.{if◌then◌else◌, count, Each}
+use Rattle.board.specs.Plain.{count, Each}
 use Rattle.board.specs.Board.{same_unit, same_ticket, units, find, ticket_of_active, Board, fresh, frozen, all_waiting}
 use Rattle.board.specs.Answers.{Answer, refused, taken, sent, nothing, done, before, time, first, empty, handed}
 use Rattle.board.specs.Sending.{busy}

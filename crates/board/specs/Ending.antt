@@ -1,8 +1,8 @@
 -- How a request ends: the events, the table of base statuses, sense, the freeze, the status byte. Assumes nothing.
-use Rattle.std.specs.Prelude.{Bool, true, false, not, ◌&&◌, ◌||◌, List, [], ◌∷◌, ◌++◌, ℕ, ◌+◌, ◌-◌, pos, ◌-ℤ◌}
+use Rattle.std.specs.Prelude.{Bool, true, false, not, ◌&&◌, ◌||◌, List, [], ◌∷◌, ◌++◌, ℕ, ◌+◌, ◌-◌, pos, ◌-ℤ◌, if◌then◌else◌}
 use Rattle.std.proofs.Math.Option.{Option, none, some}
 use Rattle.board.specs.Types.{Ticket, Request, Active, Told, Sense, Bytes, Failed, None, Event, AbortDone, SelectionTimeout, Parity, BusFree, Phase, AdapterError, Complete, Coded, Names, Nothing, End, Ending, Ended, Refused}
-use Rattle.board.specs.Plain.{if◌then◌else◌, ◌=?◌, ◌<?◌, ◌≤?◌, Row, ◌⇒◌, first_that_applies}
+use Rattle.board.specs.Plain.{◌=?◌, ◌<?◌, ◌≤?◌, Row, ◌⇒◌, first_that_applies}
 use Rattle.board.specs.Board.{find, without, ticket_of_active, data_length, sense_length, Freeze, is_frozen, one_freeze, Board, with_active, with_finished, with_freeze}
 use Rattle.board.specs.Answers.{refused, done, Stepped, says}
 

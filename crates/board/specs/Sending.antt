@@ -1,7 +1,7 @@
 -- Sending. Assumes nothing.
-use Rattle.std.specs.Prelude.{Bool, true, false, not, ◌&&◌, List, [], ◌∷◌, ◌++◌, ℕ, zero, suc, ◌+◌, ◌%◌, length}
+use Rattle.std.specs.Prelude.{Bool, true, false, not, ◌&&◌, List, [], ◌∷◌, ◌++◌, ℕ, zero, suc, ◌+◌, ◌%◌, length, if◌then◌else◌}
 use Rattle.board.specs.Types.{Unit, Request, Active, Rotation, Found, Nobody}
-use Rattle.board.specs.Plain.{if◌then◌else◌, ◌≤?◌, any}
+use Rattle.board.specs.Plain.{◌≤?◌, any}
 use Rattle.board.specs.Board.{the_unit, same_unit, units, most_active, Board, frozen, with_waiting, with_active, with_mark}
 use Rattle.board.specs.Answers.{sent, nothing, Stepped, says}
 

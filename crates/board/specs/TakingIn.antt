@@ -1,7 +1,7 @@
 -- Taking a request in. Assumes nothing.
-use Rattle.std.specs.Prelude.{Bool, not, ◌||◌, List, [], ◌∷◌, ◌++◌, ℕ, length}
+use Rattle.std.specs.Prelude.{Bool, not, ◌||◌, List, [], ◌∷◌, ◌++◌, ℕ, length, if◌then◌else◌}
 use Rattle.board.specs.Types.{Request}
-use Rattle.board.specs.Plain.{if◌then◌else◌, ◌=?◌, ◌<?◌, ◌≤?◌, Row, ◌⇒◌, first_that_applies, any}
+use Rattle.board.specs.Plain.{◌=?◌, ◌<?◌, ◌≤?◌, Row, ◌⇒◌, first_that_applies, any}
 use Rattle.board.specs.Board.{places, last_ticket, Board, live, next_ticket, with_waiting, with_given}
 use Rattle.board.specs.Block.{whole_block, Fields, fields, request, with_status}
 use Rattle.board.specs.Answers.{refused, taken, Stepped}

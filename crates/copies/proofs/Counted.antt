@@ -1,4 +1,5 @@
 -- How many slots pass a test, before and after a store, and what that tells of a search. Assumes nothing.
+use Rattle.std.specs.Prelude.{if◌then◌else◌}
 use Prim.Native.Nat.{ℕ, zero, suc, ◌+◌, ◌<◌, ◌≤◌}
 use native.Mathlib.Omega.{arith}
 use mathlib.Core.Path.{◌≡◌, refl, sym, ap, subst}
@@ -7,7 +8,7 @@ use mathlib.Core.Bool.{Bool, true, false, not}
 use mathlib.Core.List.{List}
 use lib.ListN.{length, set}
 use lib.Seq.{get_or-set_same, get_or-set_other}
-use Rattle.board.specs.Plain.{if◌then◌else◌, ◌=?◌}
+use Rattle.board.specs.Plain.{◌=?◌}
 use Rattle.board.proofs.Choose.{by_cases, same, differ}
 use Rattle.copies.specs.Slots.{number_in, slot_of, slots_passing}
 use Rattle.copies.proofs.Copied.{unless_same, Finds, finds, finds_none, finds_slot}

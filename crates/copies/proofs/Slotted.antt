@@ -1,4 +1,5 @@
 -- Laws of slots and copies. Assumes nothing.
+use Rattle.std.specs.Prelude.{if◌then◌else◌}
 use Prim.Native.Nat.{ℕ, suc, ◌+◌, ◌*◌, ◌-◌, ◌<◌, ◌≤◌}
 use native.Mathlib.Omega.{arith}
 use mathlib.Core.Path.{◌≡◌, refl, sym, ap, ◌∙◌, subst}
@@ -7,7 +8,7 @@ use mathlib.Core.Bool.{true, false, ◌&&◌}
 use mathlib.Core.List.{List}
 use lib.ListN.{length, get_or, set, drop}
 use lib.Seq.{sets, length-sets, drop-cons, drop-length}
-use Rattle.board.specs.Plain.{if◌then◌else◌, ◌=?◌, ◌<?◌, ◌≤?◌}
+use Rattle.board.specs.Plain.{◌=?◌, ◌<?◌, ◌≤?◌}
 use Rattle.board.proofs.Choose.{if_ind, same, differ, at_most, not_at_most, when_at_most, unless_at_most, when_below, unless_below}
 use Rattle.copies.specs.Slots.{number_in, length_in, slot_from, slot_of, nowhere, lies_in, lies, pasted, can_keep, noted, store_with, forgotten}
 

@@ -1,8 +1,8 @@
 -- The slots of the book and the store, and what each function makes of them. Assumes nothing.
-use Rattle.std.specs.Prelude.{ℕ, zero, suc, ◌+◌, ◌*◌, Bool, ◌&&◌, List, length, get_or, set, take, drop}
+use Rattle.std.specs.Prelude.{ℕ, zero, suc, ◌+◌, ◌*◌, Bool, ◌&&◌, List, length, get_or, set, take, drop, if◌then◌else◌}
 use Rattle.std.proofs.lemmas.List.Edits.{sets}
 use Rattle.board.specs.declared.Ticket.{Ticket}
-use Rattle.board.specs.Plain.{if◌then◌else◌, ◌=?◌, ◌<?◌, ◌≤?◌}
+use Rattle.board.specs.Plain.{◌=?◌, ◌<?◌, ◌≤?◌}
 use Rattle.copies.specs.declared.Lies.{Lies}
 
 -- the number of slot i: a ticket, or 0 while it is free; and the length of its copy

@@ -1,9 +1,10 @@
 -- Freeze and release, on the words: one law for both. Assumes nothing.
+use Rattle.std.specs.Prelude.{if◌then◌else◌}
 use Rattle.std.proofs.Common.{◌≡◌, ℕ, ◌+◌, ◌<◌, ◌≤◌, Bool, true, false, cond, not, List, [], set, sym, refl, ap, ◌∙◌, subst, arith, get_or-set_same}
 use mathlib.Core.Path.{fun_ext}
 use Rattle.board.specs.declared.Unit.{Unit}
 use Rattle.board.specs.declared.Freezing.{Freezing}
-use Rattle.board.specs.Plain.{if◌then◌else◌, ◌=?◌}
+use Rattle.board.specs.Plain.{◌=?◌}
 use Rattle.board.specs.Board.{the_unit, same_unit, at, units, Freeze, no_freeze, is_frozen, freeze_number, one_freeze, one_release, Board, with_freeze}
 use Rattle.board.specs.Answers.{refused, before, Stepped, says, freezing_says}
 use Rattle.board.specs.Calls.{freezing, Call, freeze, release, step}

@@ -1,8 +1,8 @@
 -- Handing back, on the words. Assumes nothing.
+use Rattle.std.specs.Prelude.{if◌then◌else◌}
 use Rattle.std.proofs.Common.{◌≡◌, ℕ, ◌+◌, ◌<◌, ◌≤◌, Bool, true, false, not, ◌≢◌, List, map, sym, refl, ap, ◌∙◌, subst, arith}
 use Rattle.board.specs.declared.Finished.{Finished}
 use Rattle.board.specs.declared.Told.{Told}
-use Rattle.board.specs.Plain.{if◌then◌else◌}
 use Rattle.board.specs.Board.{with_finished}
 use Rattle.board.specs.Answers.{refused, handed, Stepped}
 use Rattle.board.specs.Block.{with_told}

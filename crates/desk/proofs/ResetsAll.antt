@@ -1,4 +1,5 @@
 -- A bus reset, on the words: one active request after the other ends, smallest ticket first. Assumes nothing.
+use Rattle.std.specs.Prelude.{if◌then◌else◌}
 use Rattle.std.proofs.Common.{◌≡◌, ℕ, ◌+◌, ◌<◌, ◌≤◌, min, Bool, true, false, not, ◌||◌, ◌≢◌, List, [], ◌∷◌, ◌++◌, map, sym, refl, ap, ◌∙◌, subst, arith}
 use mathlib.Core.Bool.{or-true}
 use Rattle.board.specs.declared.Ticket.{Ticket}
@@ -6,7 +7,7 @@ use Rattle.board.specs.declared.Request.{Request}
 use Rattle.board.specs.declared.Active.{Active}
 use Rattle.board.specs.declared.End.{End}
 use Rattle.board.specs.declared.Told.{Told}
-use Rattle.board.specs.Plain.{if◌then◌else◌, ◌=?◌, ◌<?◌, Each}
+use Rattle.board.specs.Plain.{◌=?◌, ◌<?◌, Each}
 use Rattle.board.specs.Board.{the_ticket, without, insert, by_ticket, ticket_of_active, all_waiting, last_ticket, live, with_active}
 use Rattle.board.specs.Answers.{done}
 use Rattle.board.specs.Ending.{end_unmoved, told, ended_active}

@@ -1,11 +1,11 @@
 -- Sending, on the words. Assumes nothing.
+use Rattle.std.specs.Prelude.{if◌then◌else◌}
 use Rattle.std.proofs.Common.{◌≡◌, ℕ, ◌+◌, ◌<◌, ◌≤◌, Bool, true, false, not, ◌&&◌, eqb, leb, ◌≢◌, List, [], ◌∷◌, ◌++◌, map, length, sym, refl, ap, ◌∙◌, subst, arith, leb-false}
 use lib.ListN.{length-map}
 use Rattle.board.specs.declared.Unit.{Unit}
 use Rattle.board.specs.declared.Request.{Request}
 use Rattle.board.specs.declared.Rotation.{Rotation}
 use Rattle.board.specs.declared.Rotation.TheVariants.{Found, Nobody}
-use Rattle.board.specs.Plain.{if◌then◌else◌}
 use Rattle.board.specs.Board.{units, most_active, Board}
 use Rattle.board.specs.Answers.{sent, nothing, Stepped, says}
 use Rattle.board.specs.Sending.{eligible, rotation, sent_from, sent_first, sent_by, sending}

@@ -1,9 +1,10 @@
 -- Taking a request in, on the words: the checks on the block, those on the board, a request that passes. Assumes nothing.
+use Rattle.std.specs.Prelude.{if◌then◌else◌}
 use Rattle.std.proofs.Common.{◌≡◌, ℕ, suc, ◌+◌, ◌*◌, ◌<◌, ◌≤◌, Bool, true, false, ◌≢◌, List, [], ◌∷◌, ◌++◌, map, length, set, sym, refl, ap, ◌∙◌, subst, arith, length-set}
 use Rattle.board.specs.declared.Ticket.{Ticket}
 use Rattle.board.specs.declared.Unit.{Unit}
 use Rattle.board.specs.declared.Request.{Request}
-use Rattle.board.specs.Plain.{if◌then◌else◌, ◌<?◌, ◌≤?◌, Row, ◌⇒◌, first_that_applies}
+use Rattle.board.specs.Plain.{◌<?◌, ◌≤?◌, Row, ◌⇒◌, first_that_applies}
 use Rattle.board.specs.Board.{the_ticket, units, places, last_ticket, Board, live, next_ticket}
 use Rattle.board.specs.Block.{byte, fields, request, with_status}
 use Rattle.board.specs.Answers.{refused, taken}

@@ -1,7 +1,8 @@
 -- No two active requests have one ticket: what abort and the bus reset rest on, said of places. Assumes nothing.
+use Rattle.std.specs.Prelude.{if◌then◌else◌}
 use Rattle.std.proofs.Common.{◌≡◌, ℕ, ◌+◌, ◌≤◌, Bool, ◌≢◌, List, ◌∷◌, ◌++◌, map, ◌∙◌, arith}
 use Rattle.board.specs.declared.Request.{Request}
-use Rattle.board.specs.Plain.{if◌then◌else◌, ◌=?◌, Each}
+use Rattle.board.specs.Plain.{◌=?◌, Each}
 use Rattle.board.specs.Board.{the_ticket, same_ticket, all_waiting, live}
 use Rattle.board.proofs.Choose.{differ, itself}
 use Rattle.board.proofs.Weigh.{weigh, one, weigh_append, weigh_map, weigh_count, each_other}

@@ -1,9 +1,10 @@
 -- A tick, on the words. Assumes nothing.
+use Rattle.std.specs.Prelude.{if◌then◌else◌}
 use Rattle.std.proofs.Common.{◌≡◌, ℕ, zero, suc, ◌+◌, ◌-◌, ◌%◌, ◌^◌, ◌<◌, ◌≤◌, Bool, true, false, not, ◌||◌, ◌≢◌, List, [], ◌∷◌, map, length, get_or, set, sym, refl, ap, ◌∙◌, arith, get_or-set_same, le-leb}
 use mathlib.Core.Bool.{or-true, or-false}
 use mathlib.Core.List.{map-map}
 use borrow.Author.Tests.{lt-leb}
-use Rattle.board.specs.Plain.{if◌then◌else◌, ◌=?◌}
+use Rattle.board.specs.Plain.{◌=?◌}
 use Rattle.board.specs.Board.{with_active, with_clock}
 use Rattle.board.specs.Answers.{time}
 use Rattle.board.specs.Calls.{late, time_passed, ticking, tick, step}

@@ -1,7 +1,6 @@
 -- What taking a request in looks for and stores: no meaning. Assumes nothing.
-use Rattle.std.specs.Prelude.{ℕ, zero, suc, ◌+◌, Bool, false, not, ◌&&◌, ◌||◌, List, ◌==◌}
+use Rattle.std.specs.Prelude.{ℕ, zero, suc, ◌+◌, Bool, false, not, ◌&&◌, ◌||◌, List, ◌==◌, if◌then◌else◌}
 use Rattle.board.specs.declared.Request.{Request}
-use Rattle.board.specs.Plain.{if◌then◌else◌}
 use Rattle.rows.specs.Words.{owner, popped, put_first, put_last}
 use Rattle.desk.specs.Words.{address_at, written}
 

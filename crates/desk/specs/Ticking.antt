@@ -1,6 +1,5 @@
 -- What a tick stores: no meaning. Assumes nothing.
-use Rattle.std.specs.Prelude.{ℕ, zero, suc, cond, List, nat_le, slice_set}
-use Rattle.board.specs.Plain.{if◌then◌else◌}
+use Rattle.std.specs.Prelude.{ℕ, zero, suc, cond, List, nat_le, slice_set, if◌then◌else◌}
 use Rattle.board.specs.Calls.{late}
 use Rattle.rows.specs.Words.{next}
 use Rattle.desk.specs.Words.{word_of}

@@ -1,10 +1,10 @@
 -- The board that the words show. Assumes nothing.
-use Rattle.std.specs.Prelude.{ℕ, ◌+◌, ◌%◌, not, List, [], map}
+use Rattle.std.specs.Prelude.{ℕ, ◌+◌, ◌%◌, not, List, [], map, if◌then◌else◌}
 use Rattle.board.specs.declared.Unit.{Unit}
 use Rattle.board.specs.declared.Request.{Request}
 use Rattle.board.specs.declared.Active.{Active}
 use Rattle.board.specs.declared.Finished.{Finished}
-use Rattle.board.specs.Plain.{if◌then◌else◌, ◌=?◌, ◌<?◌}
+use Rattle.board.specs.Plain.{◌=?◌, ◌<?◌}
 use Rattle.board.specs.Board.{the_unit, the_ticket, units, Freeze, no_freeze, Board}
 use Rattle.board.specs.Block.{signed}
 use Rattle.board.specs.Limits.{Sound}

@@ -7,13 +7,13 @@
 --       j = 0 unit, 1 callback, 2 callback wanted, 3 data length, 4 sense length, 5 autosense not disabled, 6 timeout, 7 to 9 CDB;
 --       while it is active 10 start, 11 asked, 12 overdue;
 --       when it is finished 10 status byte, 11 SCSI status, 12 autosense residual, 13 residual
-use Rattle.std.specs.Prelude.{◌≡◌, ℕ, zero, suc, ◌+◌, ◌*◌, ◌%◌, ◌<◌, ◌≤◌, Bool, true, false, cond, not, ◌&&◌, List, [], ◌∷◌, ◌==◌, nat_le, slice_index, slice_set}
+use Rattle.std.specs.Prelude.{◌≡◌, ℕ, zero, suc, ◌+◌, ◌*◌, ◌%◌, ◌<◌, ◌≤◌, Bool, true, false, cond, not, ◌&&◌, List, [], ◌∷◌, ◌==◌, nat_le, slice_index, slice_set, if◌then◌else◌}
 use Rattle.board.specs.declared.Unit.{Unit}
 use Rattle.board.specs.declared.Request.{Request}
 use Rattle.board.specs.declared.Told.{Told}
 use Rattle.board.specs.declared.Freezing.{Freezing}
 use Rattle.board.specs.declared.Freezing.TheVariants as freezing
-use Rattle.board.specs.Plain.{if◌then◌else◌, ◌=?◌}
+use Rattle.board.specs.Plain.{◌=?◌}
 use Rattle.board.specs.Block.{word, signed}
 use Rattle.rows.specs.Words.{next, head, popped, put_last, cut_out}
 

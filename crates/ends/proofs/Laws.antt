@@ -1,8 +1,9 @@
 -- What the crates above need of the definitions here: a data length of at most FFFFFFh is left as it is, and a unit is
 -- frozen after an end exactly if it was before or the end is bad. Assumes nothing.
+use Rattle.std.specs.Prelude.{if◌then◌else◌}
 use Rattle.std.proofs.Common.{◌≡◌, ℕ, ◌%◌, ◌≤◌, Bool, true, false, not, ◌||◌, sym, ◌∙◌, arith}
 use mathlib.Core.Bool.{or-true, or-false}
-use Rattle.board.specs.Plain.{if◌then◌else◌, ◌=?◌}
+use Rattle.board.specs.Plain.{◌=?◌}
 use Rattle.board.specs.Board.{data_length, Freeze, is_frozen, one_freeze}
 use Rattle.board.specs.Ending.{freeze_after}
 use Rattle.board.proofs.Freezes.{one_freeze_frozen}

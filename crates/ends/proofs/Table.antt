@@ -1,6 +1,7 @@
 -- The code's way through the events is the table of ends. Assumes nothing.
+use Rattle.std.specs.Prelude.{if◌then◌else◌}
 use Rattle.std.proofs.Common.{◌≡◌, ℕ, ◌<◌, ◌≤◌, Bool, true, false, refl, le-ltb, lt-ltb}
-use Rattle.board.specs.Plain.{if◌then◌else◌, first_that_applies}
+use Rattle.board.specs.Plain.{first_that_applies}
 use Rattle.board.specs.Ending.{sense_looked_at, base, refusal_102, table_of_ends, base_status, end_by_event, implausible, ending_by, ending}
 use Rattle.ends.specs.Types.{Active, Request, Event, AbortDone, SelectionTimeout, Parity, BusFree, Phase, AdapterError, Complete, Ended, Refused}
 use Rattle.ends.specs.Model.{plainly, abort_done, completely, by_event}

@@ -1,8 +1,8 @@
 -- What the private functions make of their arguments, in the order in which the code goes. proofs/Table.antt has the law
 -- that this is the table of ends. Assumes nothing.
-use Rattle.std.specs.Prelude.{ℕ, ◌-◌, ◌<◌, Bool, false, ◌&&◌, ◌||◌, pos, ◌-ℤ◌}
+use Rattle.std.specs.Prelude.{ℕ, ◌-◌, ◌<◌, Bool, false, ◌&&◌, ◌||◌, pos, ◌-ℤ◌, if◌then◌else◌}
 use Rattle.ends.specs.Types.{Request, Active, Sense, Event, AbortDone, SelectionTimeout, Parity, BusFree, Phase, AdapterError, Complete, Ending, Ended, Refused}
-use Rattle.board.specs.Plain.{if◌then◌else◌, ◌=?◌, ◌<?◌, ◌≤?◌}
+use Rattle.board.specs.Plain.{◌=?◌, ◌<?◌, ◌≤?◌}
 use Rattle.board.specs.Board.{data_length, sense_length}
 use Rattle.board.specs.Ending.{bytes_of}
 

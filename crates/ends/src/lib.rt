@@ -1,8 +1,8 @@
 // How a request ends: what an event makes of an active request, the ends without an event, and when a request is late.
 #![tactic(auto)]
 
-ghost use Rattle.std.specs.Prelude.{◌≡◌, ◌-◌, ◌%◌, ◌<◌, ◌≤◌, true, pos, ◌-ℤ◌};
-ghost use Rattle.board.specs.Plain.{◌=?◌, if◌then◌else◌};
+ghost use Rattle.std.specs.Prelude.{◌≡◌, ◌-◌, ◌%◌, ◌<◌, ◌≤◌, true, pos, ◌-ℤ◌, if◌then◌else◌};
+ghost use Rattle.board.specs.Plain.{◌=?◌};
 ghost use Rattle.board.specs.Ending.{bytes_of, end_unmoved, ending, status_byte, told};
 ghost use Rattle.board.specs.Calls.{seconds_since, late};
 ghost use Rattle.ends.specs.Closing.{capped_request, capped, closed};

@@ -1,4 +1,5 @@
 -- However a log is cut into pieces, its answers are the replay of the whole. Assumes nothing.
+use Rattle.std.specs.Prelude.{if◌then◌else◌}
 use Prim.Native.Nat.{ℕ, zero, suc}
 use native.Mathlib.Omega.{arith}
 use mathlib.Core.Path.{◌≡◌, refl, sym, ap, ◌∙◌, subst}
@@ -7,7 +8,7 @@ use mathlib.Core.Bool.{Bool, true, false}
 use mathlib.Core.List.{List, [], ◌∷◌, ◌++◌, append_assoc, append-nil}
 use lib.ListN.{take}
 use lib.Seq.{take-take}
-use Rattle.board.specs.Plain.{if◌then◌else◌, ◌=?◌, Each}
+use Rattle.board.specs.Plain.{◌=?◌, Each}
 use Rattle.board.proofs.Choose.{if_ind, same, differ}
 use Rattle.board.proofs.Weigh.{each_append}
 use Rattle.lines.specs.Text.{onto}

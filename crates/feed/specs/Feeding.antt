@@ -1,6 +1,6 @@
 -- A log that comes piece by piece: what has been answered so far, and what stands over of a line that has not ended. Assumes nothing.
-use Rattle.std.specs.Prelude.{ℕ, ◌≡◌, List, [], ◌∷◌, ◌++◌, take}
-use Rattle.board.specs.Plain.{if◌then◌else◌, ◌=?◌}
+use Rattle.std.specs.Prelude.{ℕ, ◌≡◌, List, [], ◌∷◌, ◌++◌, take, if◌then◌else◌}
+use Rattle.board.specs.Plain.{◌=?◌}
 use Rattle.answers.specs.Answer.{head}
 use Rattle.replay_log.specs.Replay.{State, answer, replay}
 use Rattle.replay_log.specs.Memory.{Memory, shown, Holds}

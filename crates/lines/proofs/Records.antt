@@ -1,4 +1,5 @@
 -- Laws of whole records: what the parts that the code finds make of the line. Assumes nothing.
+use Rattle.std.specs.Prelude.{if◌then◌else◌}
 use Prim.Native.Nat.{ℕ, ◌+◌, ◌-◌, ◌/◌, ◌%◌, ◌≤◌, ◌<◌}
 use mathlib.Core.Path.{◌≡◌, refl, sym, ap, ◌∙◌, subst}
 use mathlib.Core.Bool.{Bool, true, false, ◌&&◌}
@@ -8,7 +9,6 @@ use borrow.Author.Tests.{le-leb, eq-eqb, ne_eqb, eqb-true}
 use lib.ListN.{length, get_or, take, drop, length-drop}
 use lib.Seq.{take_all, sets}
 use lib.Dec.{eqb}
-use Rattle.board.specs.Plain.{if◌then◌else◌}
 use Rattle.lines.specs.Text.{number, fields, onto, Cut, are_bytes, all_hex, bytes, code}
 use Rattle.lines.specs.Record.{Record, submit, send, event, abort, freeze, release, tick, reset, hand_back, malformed, only, none_more, of_number, numbered, of_block, plain_event, completed, complete_event, event_rest, event_of, by_letter, record_of, parse, told, kept, room, Parsed, kind, sense}
 use Rattle.lines.specs.declared.Line.{Line}

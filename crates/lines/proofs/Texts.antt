@@ -1,4 +1,5 @@
 -- Laws of the text of a line, each in the form in which a loop over the bytes asks for it. Assumes nothing.
+use Rattle.std.specs.Prelude.{if◌then◌else◌}
 use Prim.Native.Nat.{ℕ, zero, suc, ◌+◌, ◌*◌, ◌-◌, ◌/◌, ◌%◌, ◌≤◌, ◌<◌}
 use mathlib.Core.Path.{◌≡◌, refl, sym, ap, ◌∙◌, subst}
 use mathlib.Core.Bool.{Bool, true, false, ◌&&◌, ◌||◌}
@@ -11,7 +12,7 @@ use lib.Seq.{drop-cons, take-suc, sets}
 use lib.Dec.{eqb}
 use Rattle.lines.specs.Text.{more, number, fields, onto, Cut, is_hex, hex_value, all_hex, bytes, code}
 use Rattle.lines.specs.Record.{Record, malformed, only, kind, code_kind, sense, sense_bytes}
-use Rattle.board.specs.Plain.{if◌then◌else◌, ◌≤?◌}
+use Rattle.board.specs.Plain.{◌≤?◌}
 use Rattle.board.proofs.Choose.{by_cases, both, at_most}
 use Rattle.board.specs.declared.Event.TheVariants.{AbortDone}
 use Rattle.lines.specs.declared.Kind.TheVariants.{Plain, Completed, NoKind}

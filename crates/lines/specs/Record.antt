@@ -1,7 +1,7 @@
 -- One record of the log: what a line says, and what reading one promises. Assumes nothing.
-use Rattle.std.specs.Prelude.{List, [], ◌∷◌, ℕ, ◌≤◌, ◌≡◌, length}
+use Rattle.std.specs.Prelude.{List, [], ◌∷◌, ℕ, ◌≤◌, ◌≡◌, length, if◌then◌else◌}
 use Rattle.std.proofs.lemmas.List.Edits.{sets}
-use Rattle.board.specs.Plain.{if◌then◌else◌, ◌=?◌, ◌≤?◌}
+use Rattle.board.specs.Plain.{◌=?◌, ◌≤?◌}
 use Rattle.board.specs.Board.{the_ticket}
 use Rattle.board.specs.declared.Ticket.{Ticket}
 use Rattle.board.specs.declared.Event.{Event}

@@ -1,6 +1,6 @@
 -- The text of a line: its fields, decimal numbers, and hex digits. A byte is a number, and these are ASCII. Assumes nothing.
-use Rattle.std.specs.Prelude.{Bool, true, ◌&&◌, ◌||◌, List, [], ◌∷◌, ℕ, ◌+◌, ◌*◌, ◌-◌, ◌%◌, ◌≤◌, ◌<◌, ◌≡◌, length, take, drop}
-use Rattle.board.specs.Plain.{if◌then◌else◌, ◌=?◌, ◌≤?◌}
+use Rattle.std.specs.Prelude.{Bool, true, ◌&&◌, ◌||◌, List, [], ◌∷◌, ℕ, ◌+◌, ◌*◌, ◌-◌, ◌%◌, ◌≤◌, ◌<◌, ◌≡◌, length, take, drop, if◌then◌else◌}
+use Rattle.board.specs.Plain.{◌=?◌, ◌≤?◌}
 use Rattle.lines.specs.declared.Code.{Code}
 use Rattle.lines.specs.declared.Code.TheVariants.{Byte, Bad}
 use Rattle.lines.specs.declared.Number.{Number}

@@ -1,10 +1,11 @@
 -- C's calls one after the other are a session of the desk. Assumes nothing.
+use Rattle.std.specs.Prelude.{if◌then◌else◌}
 use Prim.Native.Nat.{ℕ}
 use mathlib.Core.Path.{refl, sym, ap, subst}
 use mathlib.Core.Bool.{Bool}
 use mathlib.Core.List.{List, [], ◌∷◌, ◌++◌}
 use Rattle.board.specs.declared.Ticket.{Ticket}
-use Rattle.board.specs.Plain.{if◌then◌else◌, ◌<?◌}
+use Rattle.board.specs.Plain.{◌<?◌}
 use Rattle.board.specs.Calls.{Call}
 use Rattle.board.proofs.Choose.{by_cases, below, not_below}
 use Rattle.desk.specs.View.{Rest, the_rest}

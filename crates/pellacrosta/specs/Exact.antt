@@ -1,5 +1,5 @@
 -- That the numbers C is given, refusals and 0 or 1, are document 01's. proofs/Exactly.antt proves it. Assumes nothing.
-use Rattle.std.specs.Prelude.{ℕ, ◌≡◌}
+use Rattle.std.specs.Prelude.{ℕ, ◌≡◌, if◌then◌else◌}
 use Rattle.board.specs.declared.TakingIn.{TakingIn}
 use Rattle.board.specs.declared.Sending.{Sending}
 use Rattle.board.specs.declared.Reporting.{Reporting}
@@ -7,7 +7,7 @@ use Rattle.board.specs.declared.Aborting.{Aborting}
 use Rattle.board.specs.declared.Freezing.{Freezing}
 use Rattle.board.specs.declared.Looking.{Looking}
 use Rattle.board.specs.declared.HandingBack.{HandingBack}
-use Rattle.board.specs.Plain.{if◌then◌else◌, ◌=?◌}
+use Rattle.board.specs.Plain.{◌=?◌}
 use Rattle.board.specs.Answers.{Answer, refused, taken, sent, nothing, done, before, time, first, empty, handed, taking_in_says, sending_says, reporting_says, aborting_says, freezing_says, looking_says, handing_back_says}
 use Rattle.pellacrosta.specs.Forms.{as_taken, as_sent, as_reported, as_aborted, as_frozen, as_first, as_handed}
 

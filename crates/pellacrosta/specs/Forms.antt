@@ -1,6 +1,6 @@
 -- What each answer is in C: a record, or one number. A record begins with the number of the refusal, or 0, and what doesn't apply in it is
 -- 0 or false. Assumes nothing.
-use Rattle.std.specs.Prelude.{ℕ, true, false, [], ◌∷◌, pos}
+use Rattle.std.specs.Prelude.{ℕ, true, false, [], ◌∷◌, pos, if◌then◌else◌}
 use Rattle.board.specs.declared.TakingIn.{TakingIn}
 use Rattle.board.specs.declared.TakingIn.TheVariants as taking_in
 use Rattle.board.specs.declared.Sending.{Sending}
@@ -15,7 +15,7 @@ use Rattle.board.specs.declared.Looking.{Looking}
 use Rattle.board.specs.declared.Looking.TheVariants as looking
 use Rattle.board.specs.declared.HandingBack.{HandingBack}
 use Rattle.board.specs.declared.HandingBack.TheVariants as handing_back
-use Rattle.board.specs.Plain.{if◌then◌else◌, ◌=?◌}
+use Rattle.board.specs.Plain.{◌=?◌}
 use Rattle.board.specs.Answers.{number}
 use Rattle.board.specs.Block.{cdb_bytes}
 use Rattle.pellacrosta.specs.declared.Taken.{Taken}

@@ -1,12 +1,12 @@
 -- What the numbers that C passes with a report mean: an event's kind, its SCSI status and its sense. The refusals 202 to 204 are the library's own.
 -- Assumes nothing.
-use Rattle.std.specs.Prelude.{ℕ}
+use Rattle.std.specs.Prelude.{ℕ, if◌then◌else◌}
 use Rattle.board.specs.declared.Event.TheVariants.{AbortDone, Complete}
 use Rattle.board.specs.declared.Coded.{Coded}
 use Rattle.board.specs.declared.Coded.TheVariants.{Names, Nothing}
 use Rattle.board.specs.declared.Sense.{Sense}
 use Rattle.board.specs.declared.Sense.TheVariants.{Bytes, Failed, None}
-use Rattle.board.specs.Plain.{if◌then◌else◌, ◌=?◌, ◌<?◌}
+use Rattle.board.specs.Plain.{◌=?◌, ◌<?◌}
 use Rattle.board.specs.Ending.{event_named}
 use Rattle.pellacrosta.specs.declared.Meant.{Meant}
 use Rattle.pellacrosta.specs.declared.Meant.TheVariants.{Event, Unclear}

@@ -1,7 +1,7 @@
 -- C's calls one after the other: each is a call of the board, or is refused by the library and changes nothing. So any number of them is a
 -- session of the desk, of which demand 3 holds (Desk, in the desk's Session). proofs/InC.antt proves it. Assumes nothing.
-use Rattle.std.specs.Prelude.{ℕ, ◌≡◌, List, [], ◌∷◌, ◌++◌}
-use Rattle.board.specs.Plain.{if◌then◌else◌, ◌<?◌}
+use Rattle.std.specs.Prelude.{ℕ, ◌≡◌, List, [], ◌∷◌, ◌++◌, if◌then◌else◌}
+use Rattle.board.specs.Plain.{◌<?◌}
 use Rattle.board.specs.declared.Ticket.{Ticket}
 use Rattle.board.specs.declared.Unit.{Unit}
 use Rattle.board.specs.Answers.{Answer, done, taking_in_says, aborting_says, freezing_says, looking_says, handing_back_says}

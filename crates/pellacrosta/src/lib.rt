@@ -3,10 +3,10 @@
 // nothing. In this order: the records that C is given; what a number of C means; what an answer is in C; the calls.
 #![tactic(auto)]
 
-ghost use Rattle.std.specs.Prelude.{◌≡◌};
+ghost use Rattle.std.specs.Prelude.{◌≡◌, if◌then◌else◌};
 ghost use Rattle.board.specs.Answers.{aborting_says, done, freezing_says, handing_back_says, looking_says, taking_in_says};
 ghost use Rattle.board.specs.Board.{the_ticket, the_unit};
-ghost use Rattle.board.specs.Plain.{if◌then◌else◌, ◌=?◌};
+ghost use Rattle.board.specs.Plain.{◌=?◌};
 ghost use Rattle.board.specs.Block.{cdb_bytes};
 ghost use Rattle.board.specs.Calls.{abort, freeze, look, release, reset};
 ghost use Rattle.desk.specs.Promise.{Freezes, Fresh, HandsBack, TakesIn};

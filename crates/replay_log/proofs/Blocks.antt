@@ -1,4 +1,5 @@
 -- A block taken in, and one handed back: the definition's answers. Assumes nothing.
+use Rattle.std.specs.Prelude.{if◌then◌else◌}
 use Prim.Native.Nat.{ℕ, ◌+◌, ◌-◌, ◌<◌, ◌≤◌}
 use native.Mathlib.Omega.{arith}
 use mathlib.Core.Path.{◌≡◌, refl, sym, ap, ◌∙◌, subst}
@@ -16,7 +17,7 @@ use Rattle.board.specs.declared.Looking.{Looking}
 use Rattle.board.specs.declared.Looking.TheVariants as looking
 use Rattle.board.specs.declared.HandingBack.{HandingBack}
 use Rattle.board.specs.declared.HandingBack.TheVariants as handing_back
-use Rattle.board.specs.Plain.{if◌then◌else◌, ◌=?◌, count}
+use Rattle.board.specs.Plain.{◌=?◌, count}
 use Rattle.board.specs.Board.{the_ticket, Board, with_finished}
 use Rattle.board.specs.Block.{with_told}
 use Rattle.board.specs.Answers.{Stepped, refused, taken, handed, taking_in_says, looking_says, handing_back_says, number}

@@ -1,4 +1,5 @@
 -- What taking in and handing back do to the program's copies: the definition's copies, and a slot for each live request. Assumes nothing.
+use Rattle.std.specs.Prelude.{if◌then◌else◌}
 use Prim.Native.Nat.{ℕ, ◌+◌, ◌*◌, ◌<◌, ◌≤◌}
 use native.Mathlib.Omega.{arith}
 use mathlib.Core.Path.{◌≡◌, refl, sym, ap, ◌∙◌, subst}
@@ -9,7 +10,7 @@ use lib.ListN.{length, set, length-set}
 use lib.Seq.{get_or-set_same, get_or-set_other, length-sets, sets}
 use Rattle.board.specs.declared.Ticket.{Ticket}
 use Rattle.board.specs.declared.Told.{Told}
-use Rattle.board.specs.Plain.{if◌then◌else◌, ◌=?◌, any, count}
+use Rattle.board.specs.Plain.{◌=?◌, any, count}
 use Rattle.board.specs.Board.{same_ticket}
 use Rattle.board.specs.Answers.{Answer, taken, handed}
 use Rattle.board.specs.Demand3.{given_by, handed_by}

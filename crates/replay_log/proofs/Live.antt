@@ -1,4 +1,5 @@
 -- How many live tickets pass a test, before and after a call. Assumes nothing.
+use Rattle.std.specs.Prelude.{if◌then◌else◌}
 use Prim.Native.Nat.{ℕ, ◌+◌, ◌≤◌}
 use native.Mathlib.Omega.{arith}
 use mathlib.Core.Path.{◌≡◌, sym, ap, ◌∙◌, subst}
@@ -6,7 +7,7 @@ use mathlib.Core.Bool.{Bool, true, false}
 use mathlib.Core.List.{List, map}
 use Rattle.board.specs.declared.Ticket.{Ticket}
 use Rattle.board.specs.declared.Request.{Request}
-use Rattle.board.specs.Plain.{if◌then◌else◌, ◌=?◌, count}
+use Rattle.board.specs.Plain.{◌=?◌, count}
 use Rattle.board.specs.Board.{places, Board, live}
 use Rattle.board.specs.Answers.{Answer}
 use Rattle.board.specs.Calls.{Call, step}

@@ -1,4 +1,5 @@
 -- Every live request's copy is its own whole block: kept by every line, and so H is never refused for its block. Assumes nothing.
+use Rattle.std.specs.Prelude.{if◌then◌else◌}
 use Prim.Native.Nat.{ℕ, ◌+◌, ◌≤◌}
 use native.Mathlib.Omega.{arith}
 use mathlib.Core.Path.{◌≡◌, refl, sym, ap, ◌∙◌, fun_ext}
@@ -17,7 +18,7 @@ use Rattle.board.specs.declared.Ending.TheVariants.{Ended, Refused}
 use Rattle.board.specs.declared.Rotation.{Rotation}
 use Rattle.board.specs.declared.Rotation.TheVariants.{Found, Nobody}
 use mathlib.Core.Option.{Option, none, some}
-use Rattle.board.specs.Plain.{if◌then◌else◌, ◌=?◌, ◌<?◌, ◌≤?◌, any}
+use Rattle.board.specs.Plain.{◌=?◌, ◌<?◌, ◌≤?◌, any}
 use Rattle.board.specs.Board.{the_unit, same_ticket, units, find, ticket_of_active, most_active, Freeze, one_freeze, one_release, Board, all_waiting, live, next_ticket, with_finished}
 use Rattle.board.specs.Sending.{sent_first, sent_by, sending}
 use Rattle.board.specs.Ending.{ending, reported_by, reported, reporting}

@@ -1,8 +1,8 @@
 -- What the replay program answers: one line in, one line out, and a whole log. Document 01, "The replay program". Assumes nothing.
-use Rattle.std.specs.Prelude.{ℕ, List, [], ◌∷◌, ◌++◌}
+use Rattle.std.specs.Prelude.{ℕ, List, [], ◌∷◌, ◌++◌, if◌then◌else◌}
 use Rattle.board.specs.declared.Ticket.{Ticket}
 use Rattle.board.specs.declared.Finished.{Finished}
-use Rattle.board.specs.Plain.{if◌then◌else◌, ◌=?◌, any}
+use Rattle.board.specs.Plain.{◌=?◌, any}
 use Rattle.board.specs.Board.{the_unit, same_ticket, Board, fresh}
 use Rattle.board.specs.Answers.{Answer}
 use Rattle.board.specs.Demand3.{given_by, handed_by}

@@ -15,11 +15,11 @@ returns-then-wide-u c = sym (c.loop-i.invariant.1
 
 pub loop-i-preserved : goal.loop-i-preserved
 loop-i-preserved c = (
-      omega arith,
-      rw c.next_of-h.ensures
-          (c.loop-i.invariant.1
-          ∙ busy_next _ _ _ _ c.loop-i-test.true c.if-h-ge32.false (λ z. c.if-wide-u.false (c.wide.ensures ∙ z))),
-    )
+  omega arith,
+  rw c.next_of-h.ensures
+      (c.loop-i.invariant.1
+      ∙ busy_next _ _ _ _ c.loop-i-test.true c.if-h-ge32.false (λ z. c.if-wide-u.false (c.wide.ensures ∙ z))),
+)
 
 pub returns : goal.returns
 returns c = sym (c.loop-i.invariant.1 ∙ busy_over _ _ _ _ (omega arith))

@@ -11,10 +11,10 @@ returns-then-h-ge32 c = sym (c.loop-i.invariant.1 ∙ marked_end _ _ _ _ c.loop-
 
 pub loop-i-preserved : goal.loop-i-preserved
 loop-i-preserved c = (
-      omega arith,
-      rw (c.next_of-h.ensures, c.mark_if_late.ensures)
-          (c.loop-i.invariant.1 ∙ marked_next _ _ _ _ c.loop-i-test.true c.if-h-ge32.false),
-    )
+  omega arith,
+  rw (c.next_of-h.ensures, c.mark_if_late.ensures)
+      (c.loop-i.invariant.1 ∙ marked_next _ _ _ _ c.loop-i-test.true c.if-h-ge32.false),
+)
 
 pub returns : goal.returns
 returns c = sym (c.loop-i.invariant.1 ∙ marked_over _ _ _ _ (omega arith))

@@ -12,9 +12,9 @@ returns-then-first_of-ge32 c = reset_none _ c.loop-i.mem c.loop-i.i c.loop-i.inv
 
 pub loop-i-preserved : goal.loop-i-preserved
 loop-i-preserved c = (
-      omega arith,
-      λ rest v. one_reset _ c.loop-i.mem c.end_smallest.new.mem rest c.loop-i.i c.loop-i-test.true c.end_smallest.ensures (c.loop-i.invariant.1 rest v),
-    )
+  omega arith,
+  λ rest v. one_reset _ c.loop-i.mem c.end_smallest.new.mem rest c.loop-i.i c.loop-i-test.true c.end_smallest.ensures (c.loop-i.invariant.1 rest v),
+)
 
 pub returns : goal.returns
 returns c = reset_over _ c.loop-i.mem c.loop-i.i c.loop-i.invariant.1 c.loop-i-test.false

@@ -1,6 +1,6 @@
 -- `desk::set_freeze` meets its contract. Assumes nothing.
+use Rattle.std.specs.Prelude.{if◌then◌else◌}
 use Rattle.std.proofs.Common.{◌+◌, set, refl, subst, eq-eqb, ne_eqb}
-use Rattle.board.specs.Plain.{if◌then◌else◌}
 use Rattle.board.specs.declared.Freezing.TheVariants as freezing
 use Rattle.desk.specs.Words.{freeze_at, FreezeSet, no_such_unit, freeze_set}
 use Rattle.desk.proofs.set_freeze.Goals as goal

@@ -15,11 +15,11 @@ returns-then-mem-h c = sym (c.loop-i.invariant.1 ∙ seek_stop _ _ _ _ _ c.loop-
 
 pub loop-i-preserved : goal.loop-i-preserved
 loop-i-preserved c = (
-      omega arith,
-      rw c.wide-h-in-loop-i.ensures
-          (c.loop-i.invariant.1
-          ∙ seek_next _ _ _ _ _ c.loop-i-test.true c.if-h-ge32.false c.if-mem-h.false),
-    )
+  omega arith,
+  rw c.wide-h-in-loop-i.ensures
+      (c.loop-i.invariant.1
+      ∙ seek_next _ _ _ _ _ c.loop-i-test.true c.if-h-ge32.false c.if-mem-h.false),
+)
 
 pub returns : goal.returns
 returns c = sym (c.loop-i.invariant.1 ∙ seek_over _ _ _ _ _ (omega arith))

@@ -12,10 +12,10 @@ returns-then-h-ge32 c = sym (c.loop-i.invariant.1 ∙ smallest_end _ _ _ _ (omeg
 
 pub loop-i-preserved : goal.loop-i-preserved
 loop-i-preserved c = (
-      omega arith,
-      rw (c.wide-h-in-loop-i.ensures, c.smaller-best.ensures)
-          (c.loop-i.invariant.1 ∙ smallest_next _ _ _ _ c.loop-i-test.true c.if-h-ge32.false),
-    )
+  omega arith,
+  rw (c.wide-h-in-loop-i.ensures, c.smaller-best.ensures)
+      (c.loop-i.invariant.1 ∙ smallest_next _ _ _ _ c.loop-i-test.true c.if-h-ge32.false),
+)
 
 pub returns : goal.returns
 returns c = sym (c.loop-i.invariant.1 ∙ smallest_over _ _ _ _ (omega arith))
