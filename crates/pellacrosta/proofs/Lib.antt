@@ -2,3 +2,4 @@
 pub mod Exports
 pub mod Exactly
 pub mod InC
+pub mod Lent
