@@ -1,45 +1,24 @@
-//! The request desk: what the board holds and every call on it.
+//! The request desk: the board and every call on it.
 
 use std::collections::{HashMap, HashSet, VecDeque};
 
 use crate::block::{self, offset, Fields, CDB_BYTES};
-use crate::ending::{base, Asked, Ending, Event, Marks, Outcome};
+use crate::ending::{base, Ending, Event, Marks, Outcome};
 use crate::ids::{Ticket, Unit};
 use crate::refusal::Refusal;
+
+mod request;
+#[cfg(test)]
+mod tests;
+
+use request::UnitState;
+pub use request::{Request, Stage, DEFAULT_TIMEOUT, NO_TIMEOUT};
 
 /// Places for live requests.
 pub const PLACES: usize = 32;
 
 /// At most so many requests are active at once.
 pub const MOST_ACTIVE: usize = 8;
-
-/// What timeout 0 means, in seconds.
-pub const DEFAULT_TIMEOUT: u32 = 30;
-
-/// The timeout that never ends.
-pub const NO_TIMEOUT: u32 = u32::MAX;
-
-/// Where a live request stands.
-#[derive(Clone, Copy, PartialEq, Eq, Debug)]
-pub enum Stage {
-    Waiting,
-    Active { start: u32, marks: Marks },
-    Finished(Ending),
-}
-
-/// A live request: its stage and what the desk needs of its block.
-#[derive(Clone, PartialEq, Eq, Debug)]
-pub struct Request {
-    pub stage: Stage,
-    pub address: u32,
-    pub unit: Unit,
-    pub asked: Asked,
-    pub cdb: [u8; CDB_BYTES],
-    pub callback: u32,
-    pub callback_wanted: bool,
-    /// Seconds it may be active, or none if it never ends.
-    pub timeout: Option<u32>,
-}
 
 /// The answer of a send.
 #[derive(Clone, Copy, PartialEq, Eq, Debug)]
@@ -62,14 +41,6 @@ pub struct FirstFinished {
     pub address: u32,
     pub callback: u32,
     pub callback_wanted: bool,
-}
-
-/// One unit: its order of waiting, whether it has one active, whether it is frozen.
-#[derive(Clone, Default, Debug)]
-struct UnitState {
-    waiting: VecDeque<Ticket>,
-    busy: bool,
-    frozen: bool,
 }
 
 /// The board.
@@ -335,69 +306,6 @@ fn live(requests: &mut HashMap<Ticket, Request>, ticket: Ticket) -> &mut Request
         .expect("the desk's lists name live requests only")
 }
 
-impl Request {
-    /// A request just taken in.
-    fn waiting(fields: Fields) -> Request {
-        Request {
-            stage: Stage::Waiting,
-            address: fields.address,
-            unit: fields.unit,
-            asked: Asked {
-                data_length: fields.data_length,
-                sense_length: fields.sense_length,
-                autosense: fields.autosense,
-            },
-            cdb: fields.cdb,
-            callback: fields.callback,
-            callback_wanted: fields.callback_wanted,
-            timeout: match fields.timeout {
-                0 => Some(DEFAULT_TIMEOUT),
-                NO_TIMEOUT => None,
-                seconds => Some(seconds),
-            },
-        }
-    }
-
-    /// Marks an active request overdue if its seconds since the start exceed its timeout.
-    fn mark_if_overdue(&mut self, clock: u32) {
-        if let (Stage::Active { start, marks }, Some(timeout)) = (&mut self.stage, self.timeout) {
-            marks.overdue |= clock.wrapping_sub(*start) > timeout;
-        }
-    }
-
-    /// Ends an active request: its unit is free, and frozen unless it ended well.
-    fn end_active(&mut self, outcome: &Outcome, unit: &mut UnitState) {
-        unit.busy = false;
-        unit.frozen |= outcome.freezes();
-        self.stage = Stage::Finished(outcome.on_unit(unit.frozen));
-    }
-}
-
-impl UnitState {
-    /// Joins the order of waiting at the end, or at the very front.
-    fn join(&mut self, ticket: Ticket, to_the_front: bool) {
-        if to_the_front {
-            self.waiting.push_front(ticket);
-        } else {
-            self.waiting.push_back(ticket);
-        }
-    }
-
-    /// Something waits, it isn't frozen and it has none active.
-    fn eligible(&self) -> bool {
-        !self.frozen && !self.busy && !self.waiting.is_empty()
-    }
-
-    /// Takes the first waiting request of an eligible unit, which is busy from then on.
-    fn take_next(&mut self) -> Option<Ticket> {
-        if !self.eligible() {
-            return None;
-        }
-        self.busy = true;
-        self.waiting.pop_front()
-    }
-}
-
 impl Ending {
     /// Writes bytes 7, 52, 53 and 56 to 59 and no others.
     fn write_to(&self, block: &mut [u8]) {
@@ -407,6 +315,3 @@ impl Ending {
         block::put_number(block, offset::RESIDUAL, self.residual as u32);
     }
 }
-
-#[cfg(test)]
-mod tests;
