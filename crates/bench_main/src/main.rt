@@ -466,7 +466,7 @@ fn run(rt: &impl Print, mem: &mut [u32; WORDS]) -> io::Result<u32> {
     Ok(count(few, overrun(rt, mem)?))
 }
 
-// (Rattle has no exit status: the last line says how many were as expected.)
+// (The last line says how many were as expected.)
 fn main(rt: HostRuntime) -> io::Result<()> {
     let mut mem = [0u32; WORDS];
     let right = run(&rt, &mut mem)?;

@@ -1,7 +1,6 @@
 // The clock and the rotation mark as one small record, lent by `&mut` and altered where it lies: a tick changes the clock, a send the
-// mark, and nothing else of it. A function that takes or makes a `&mut Wheel` is proved by a walk of its code by hand. So the four that
-// do have no branch; what branches stands below them and knows no reference to the wheel. A caller that keeps the wheel by value calls
-// `tick_by` and `send_by`, and needs no walk.
+// mark, and nothing else of it. The functions that take or make a `&mut Wheel` have no branch; what branches stands below them and knows
+// no reference to the wheel. A caller that keeps the wheel by value calls `tick_by` and `send_by`.
 #![tactic(auto)]
 
 ghost use Rattle.std.specs.Prelude.{◌≡◌};
