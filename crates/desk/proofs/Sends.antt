@@ -18,7 +18,7 @@ use Rattle.rows.proofs.Shown.{row_some, length_row}
 use Rattle.rows.proofs.Carry.{Out, first_out, Carried, carry, read_left, read_same, read_joined}
 use Rattle.desk.specs.Words.{freeze_at, busy_from, can_send, started, launched}
 use Rattle.desk.specs.View.{request_at, active_at, finished_at, Rest, the_rest, view, Valid}
-use Rattle.desk.specs.Promise.{Does}
+use Rattle.desk.specs.Promise.{Does, Sends}
 use Rattle.desk.proofs.Read.{SamePlace, same_request_at, kept_place, same_active_at, stores_links, stores_other, stores_low, started_active}
 use Rattle.desk.proofs.Views.{board_same, does, waiting_on, waiting_changed, same_freezes, request_others, active_others, finished_others}
 use Rattle.desk.proofs.Eligible.{rotation_same, eligible_words}
@@ -51,6 +51,9 @@ step_by m r h s e v =
 pub send_full : (m : List ℕ) (r : Rest) → 8 ≤ length_from 32 m (head m 2) → Does m m r r send (nothing 0) []
 send_full m r h =
     does (λ v. v.rows) (λ v. sym (ap (λ s. s.board) (step_full m r h v))) (λ v. sym (ap (λ s. s.answer) (step_full m r h v))) (λ v. sym (ap (λ s. s.lent) (step_full m r h v))) (λ n e. refl)
+
+pub full_sends : (m : List ℕ) (clock : ℕ) (mark : Unit) → 8 ≤ length_from 32 m (head m 2) → Sends m m clock mark mark (nothing 0)
+full_sends m clock mark h = record { does = λ given. send_full m (the_rest clock mark given) h; idle = λ n e. refl }
 
 pub send_none : (m : List ℕ) (r : Rest) → length_from 32 m (head m 2) < 8 → rotation (can_send m) r.mark 64 1 ≡ Nobody → Does m m r r send (nothing 64) []
 unfolding sent_by

@@ -342,6 +342,7 @@ pub struct Went {
 }
 
 // Send: the next request that may go becomes active, or "nothing".
+#[tactic(auto, using(crate::proofs::Sends::full_sends))]
 pub fn send(mem: &mut [u32; WORDS], clock: u32, mark: Unit) -> Went
     ensures { Sends mem.old mem.new clock mark result.mark (sending_says result.answer) }
 {

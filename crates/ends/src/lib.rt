@@ -174,6 +174,7 @@ fn by_event(a: Active, moved: u32, event: Event) -> Ending
 }
 
 // The end of an active request by an event, or refusal 102.
+#[tactic(auto, using(crate::proofs::Table::too_many))]
 fn end_of(a: Active, event: Event, moved: u32) -> Ending
     ensures { result ≡ ending (capped a) event moved }
 {

@@ -214,6 +214,7 @@ pub fn feed(
 // ---- the end of the log
 
 // What stands over, if anything does, is a line too.
+#[tactic(auto, using(crate::proofs::Lining::last_none))]
 fn finish_part(
     buf: &[u8],
     over: usize,

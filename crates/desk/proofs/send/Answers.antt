@@ -1,11 +1,8 @@
 -- `desk::send` meets its contract. Assumes nothing.
 use Rattle.std.proofs.Common.{◌≡◌, ℕ, sym, refl, ◌∙◌, arith}
 use Rattle.desk.specs.View.{the_rest}
-use Rattle.desk.proofs.Sends.{send_full, send_none, send_some, found_unit}
+use Rattle.desk.proofs.Sends.{send_none, send_some, found_unit}
 use Rattle.desk.proofs.send.Goals as goal
-
-pub returns-then-length_of-ge8 : goal.returns-then-length_of-ge8
-returns-then-length_of-ge8 c = record { does = λ given. send_full c.args.mem.now (the_rest c.args.clock c.args.mark given) (omega (arith, c.length_of.ensures, c.if-length_of-ge8.true)); idle = λ n e. refl }
 
 pub launch-q-requires : goal.launch-q-requires
 launch-q-requires c = let f = found_unit c.args.mem.now c.args.mark c.in-Found.unit c.in-Found.looked (sym c.rotate-found.ensures ∙ c.in-Found.is) in
@@ -13,10 +10,10 @@ launch-q-requires c = let f = found_unit c.args.mem.now c.args.mark c.in-Found.u
 
 pub returns-in-Nobody : goal.returns-in-Nobody
 returns-in-Nobody c = record {
-  does = λ given. send_none c.args.mem.now (the_rest c.args.clock c.args.mark given) (omega (arith, c.length_of.ensures, c.if-length_of-ge8.false)) (sym c.rotate-found.ensures ∙ c.in-Nobody.is);
+  does = λ given. send_none c.args.mem.now (the_rest c.args.clock c.args.mark given) (omega (arith, c.length_of.ensures)) (sym c.rotate-found.ensures ∙ c.in-Nobody.is);
   idle = λ n e. refl;
 }
 
 pub returns-in-Found : goal.returns-in-Found
 returns-in-Found c = rw (c.launch-q.ensures.0, c.launch-q.ensures.1, c.wide8.ensures)
-    (record { does = λ given. send_some c.args.mem.now (the_rest c.args.clock c.args.mark given) c.in-Found.unit c.in-Found.looked (omega (arith, c.length_of.ensures, c.if-length_of-ge8.false)) (sym c.rotate-found.ensures ∙ c.in-Found.is); idle = λ n e. let y : ◌≡◌ {A = ℕ} 0 1 = cc in absurd (omega arith) })
+    (record { does = λ given. send_some c.args.mem.now (the_rest c.args.clock c.args.mark given) c.in-Found.unit c.in-Found.looked (omega (arith, c.length_of.ensures)) (sym c.rotate-found.ensures ∙ c.in-Found.is); idle = λ n e. let y : ◌≡◌ {A = ℕ} 0 1 = cc in absurd (omega arith) })

@@ -5,11 +5,8 @@ use lib.Seq.{length-take-le}
 use Rattle.feed.proofs.Lining.{last_none, last_line}
 use Rattle.feed.proofs.finish_part.Goals as goal
 
-pub returns-then-over-eq0 : goal.returns-then-over-eq0
-returns-then-over-eq0 c = (λ h. last_none _ _ _ c.if-over-eq0.true, omega arith)
-
 pub slice_bounds-append-end : goal.slice_bounds-append-end
 slice_bounds-append-end c = sym (length-take-le _ _ c.requires.0)
 
 pub returns : goal.returns
-returns c = (λ h. last_line _ _ _ _ _ _ _ c.requires.0 c.if-over-eq0.false c.append-reply.ensures h, c.append-reply.ensures.within)
+returns c = (λ h. last_line _ _ _ _ _ _ _ c.requires.0 (omega arith) c.append-reply.ensures h, c.append-reply.ensures.within)
