@@ -29,7 +29,7 @@ fn entry_of(a: TakingIn) -> Entry {
     }
 }
 
-// What a hand_back says: 0 and the status byte, or the refusal.
+// What a hand-back says: 0 and the status byte, or the refusal.
 #[derive(Clone, Copy)]
 struct Back {
     number: u8,
@@ -179,7 +179,7 @@ fn take_7(mem: &mut [u32; WORDS], block: &mut [u8; 7]) -> Entry {
     entry_of(answer)
 }
 
-// A hand_back with a whole block.
+// A hand-back with a whole block.
 fn hand(mem: &mut [u32; WORDS], block: &mut [u8; 88]) -> Back {
     back_of(desk::hand_back(mem, block))
 }

@@ -1,4 +1,4 @@
--- What a hand_back does to the lent block. Assumes nothing.
+-- What a hand-back does to the lent block. Assumes nothing.
 use Rattle.std.specs.Prelude.{◌≡◌, Bool, not, List, ℕ, if◌then◌else◌}
 use Rattle.board.specs.declared.Finished.{Finished}
 use Rattle.board.specs.Block.{with_told}

@@ -24,7 +24,7 @@ pub status_length : (n : ℕ) (s : List ℕ) → length (with_status n s) ≡ le
 unfolding with_status
 status_length n s = if_ind (λ l. length l ≡ length s) (length s <? 8) s (set s 7 n) (λ e. refl) (λ e. simp length-set)
 
--- a hand_back writes bytes 7, 52, 53 and 56 to 59 and no others, and the length stays
+-- a hand-back writes bytes 7, 52, 53 and 56 to 59 and no others, and the length stays
 pub told_others : (x : Told) (s : List ℕ) (i : ℕ) → i ≢ 7 → i ≢ 52 → i ≢ 53 → i ≢ 56 → i ≢ 57 → i ≢ 58 → i ≢ 59
     → byte i (with_told x s) ≡ byte i s
 unfolding with_told bytes4

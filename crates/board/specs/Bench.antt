@@ -59,7 +59,7 @@ asking_sense = sets plain 44 (32 ∷ [])
 abbrev pub with_timeout : ℕ → List ℕ
 with_timeout n = sets plain 72 (bytes4 n)
 
--- the block with this status byte, or with all seven bytes of a hand_back
+-- the block with this status byte, or with all seven bytes of a hand-back
 abbrev pub status : ℕ → List ℕ → List ℕ
 status n s = sets s 7 (n ∷ [])
 
@@ -177,7 +177,7 @@ unstarred =
     -- Reset with 3 and 9 active: 4Eh each, 3 first.
     ∷ case fresh (reset_3_and_9 ++ (hand_back third ∷ [])) (handed_back 3 0x4E 0x00 0 (pos 512)) (back 0x4E 0x00 0 (0 ∷ 2 ∷ 0 ∷ 0 ∷ []) third)
     ∷ case fresh (reset_3_and_9 ++ (hand_back third ∷ hand_back ninth ∷ [])) (handed_back 9 0x4E 0x00 0 (pos 1024)) (back 0x4E 0x00 0 (0 ∷ 4 ∷ 0 ∷ 0 ∷ []) ninth)
-    -- 32 live: the next gets 05h; after one hand_back it passes. (An end alone frees no place; a refusal uses up no ticket.)
+    -- 32 live: the next gets 05h; after one hand-back it passes. (An end alone frees no place; a refusal uses up no ticket.)
     ∷ case fresh (filled 32 ++ (take_in (addressed 32) ∷ [])) (refused 0x05) (status 0x05 (addressed 32))
     ∷ case fresh (filled 32 ++ (abort (the_ticket 1) ∷ take_in (addressed 32) ∷ [])) (refused 0x05) (status 0x05 (addressed 32))
     ∷ case fresh (filled 32 ++ (take_in (addressed 32) ∷ abort (the_ticket 1) ∷ hand_back (addressed 0) ∷ take_in (addressed 32) ∷ [])) (taken (the_ticket 33)) (status 0x00 (addressed 32))

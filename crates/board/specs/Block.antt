@@ -111,6 +111,6 @@ request t f = record {
 unfoldable pub with_status : ℕ → List ℕ → List ℕ
 with_status n s = if length s <? 8 then s else set s 7 n
 
--- a hand_back writes bytes 7, 52, 53 and 56 to 59 and no others
+-- a hand-back writes bytes 7, 52, 53 and 56 to 59 and no others
 unfoldable pub with_told : Told → List ℕ → List ℕ
 with_told x s = sets (set (set (set s 7 x.status) 52 x.scsi) 53 x.unsensed) 56 (bytes4 (word x.residual))

@@ -1,5 +1,5 @@
 -- Document 01 as definitions, in its own order, then what is stated of them. Read top to bottom. (The replay program's records are
--- not here: they are in crates lines, answers and log.)
+-- not here: they are in crates lines, answers and replay_log.)
 pub mod Types
 pub mod Plain
 pub mod Board

@@ -8,7 +8,7 @@ pub record Written : Type 0 where
   -- taking in writes no byte but 7
   pub status_others : (n : ℕ) (s : List ℕ) (i : ℕ) → i ≢ 7 → byte i (with_status n s) ≡ byte i s
   pub status_length : (n : ℕ) (s : List ℕ) → length (with_status n s) ≡ length s
-  -- a hand_back writes bytes 7, 52, 53 and 56 to 59 and no others
+  -- a hand-back writes bytes 7, 52, 53 and 56 to 59 and no others
   pub told_others : (x : Told) (s : List ℕ) (i : ℕ) → i ≢ 7 → i ≢ 52 → i ≢ 53 → i ≢ 56 → i ≢ 57 → i ≢ 58 → i ≢ 59 → byte i (with_told x s) ≡ byte i s
   pub told_length : (x : Told) (s : List ℕ) → length (with_told x s) ≡ length s
   -- the 12 CDB bytes as accepted, of a block that has them

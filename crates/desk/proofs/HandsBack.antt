@@ -25,7 +25,7 @@ hand_back_empty m s h = record {
   written = λ t x e. let y : ◌≡◌ {A = ℕ} 0 1 = cc in absurd (omega arith);
 }
 
--- what a hand_back makes of a board whose line begins with x, by whether the block is another's
+-- what a hand-back makes of a board whose line begins with x, by whether the block is another's
 abbrev by : (m : List ℕ) (r : Rest) → List ℕ → Finished → List Finished → Bool → Stepped
 by m r s x more t =
     if t then record { board = view m r; answer = refused 105; lent = s }

@@ -1,4 +1,5 @@
--- What the walks of `pella_tick` and `pella_send` have in common: both are lent the memory and the wheel by `&mut`, and count the words
+-- What walks by hand of `pella_tick` and `pella_send` have in common (no proof cites it now: their proofs have no file): both are lent the
+-- memory and the wheel by `&mut`, and count the words
 -- between them. In this order:
 --     takes        at the start: the two borrows, without the count
 --     given_up     at an early return: both borrows are given up as they came

@@ -1,4 +1,4 @@
--- Laws of the exported calls (Exports, Exactly, InC), what two walks have in common (Lent), and the proofs of each function.
+-- Laws of the exported calls (Exports, Exactly, InC), what walks by hand of two of them have in common (Lent), and the proofs of each function.
 pub mod Exports
 pub mod Exactly
 pub mod InC

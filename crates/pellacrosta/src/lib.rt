@@ -280,7 +280,7 @@ fn as_first(a: Looking) -> First
     }
 }
 
-// A hand_back that was refused.
+// A hand-back that was refused.
 fn not_handed(refused: u32) -> Handed
     ensures { result ≡ not_handed refused }
 {
