@@ -1,5 +1,7 @@
-# make run        prove every crate, keeping what has not changed since the last run, and replay the sample log
-# make test       the gate: prove every crate from nothing, try the must-fail edits, run the programs, compare with the second program
+# make run        prove every crate, keeping what has not changed since the last run, replay the sample log, and leave the program,
+#                 target/bin/replay
+# make test       the gate: prove every crate, keeping only what the gate itself proved of the same files on this machine, try the
+#                 must-fail edits, run the programs, compare with the second program
 # make bench      the proved replay and the second program on 2,000,000 lines, then the library's calls and the second program's (after
 #                 make run and make lib, or make test)
 # make lib        prove the library for C and make its archive, target/staticlib/libpellacrosta.a
@@ -14,6 +16,10 @@ DESTDIR ?=
 archive = target/staticlib/libpellacrosta.a
 replay = target/bin/replay
 
+# Where rt leaves the two, each in its crate's folder.
+archive_made = crates/pellacrosta_c/out/libpellacrosta_c.a
+replay_made = crates/replay/out/replay
+
 # Where to. A program named plain `replay` in everybody's path would be rude.
 to_archive = $(DESTDIR)$(PREFIX)/lib/libpellacrosta.a
 to_header = $(DESTDIR)$(PREFIX)/include/pellacrosta.h
@@ -23,8 +29,9 @@ to_replay = $(DESTDIR)$(PREFIX)/bin/pellacrosta-replay
 .PHONY: run test bench lib install uninstall
 
 run:
-	@rt check
-	@target/bin/replay < samples/story.log
+	@rt all check
+	@cd crates/replay && rt run < ../../samples/story.log
+	@install -D -m 755 '$(replay_made)' '$(replay)'
 
 test:
 	@tests/all
@@ -34,7 +41,8 @@ bench:
 	@cargo run --quiet --release --offline --locked --manifest-path bench/calls/Cargo.toml --target-dir target/calls
 
 lib:
-	@rt staticlib pellacrosta
+	@cd crates/pellacrosta_c && rt lib
+	@install -D -m 644 '$(archive_made)' '$(archive)'
 
 install:
 	@case '$(PREFIX)' in '' | [!/]* | *[!A-Za-z0-9/._+~-]*) echo "install: PREFIX must be a plain absolute path" >&2; exit 1;; esac

@@ -1,6 +1,7 @@
-// The desk for C: one exported function for each call, over numbers, lent bytes, the lent words and the wheel. Nothing is required of a
-// caller's numbers: a count of words that is too small, a unit above 255, an event that is none are answered by a number, and alter
-// nothing. In this order: the records that C is given; what a number of C means; what an answer is in C; the calls.
+// The desk for C: one function for each call, over numbers, lent bytes, the lent words and the wheel; `pellacrosta_c` makes C symbols of
+// them. Nothing is required of a caller's numbers: a count of words that is too small, a unit above 255, an event that is none are
+// answered by a number, and alter nothing. In this order: the records that C is given; what a number of C means; what an answer is in C;
+// the calls.
 #![tactic(auto)]
 
 ghost use Rattle.std.specs.Prelude.{◌≡◌, if◌then◌else◌};
@@ -315,8 +316,7 @@ fn as_handed(a: HandingBack) -> Handed
 // ---- the calls, in document 01's order. Each looks at the count of words first.
 
 // A fresh board, from any words.
-#[unsafe(no_mangle)]
-pub extern "C" fn pella_fresh(mem: &mut [u32; WORDS], words: usize) -> u32
+pub fn pella_fresh(mem: &mut [u32; WORDS], words: usize) -> u32
     ensures { Exported words ((result ≡ 201) × (mem.new ≡ mem.old)) ((result ≡ 0) × Fresh mem.new) }
 {
     if words < WORDS {
@@ -327,8 +327,7 @@ pub extern "C" fn pella_fresh(mem: &mut [u32; WORDS], words: usize) -> u32
 }
 
 // Taking a request in. `last` is the last ticket given.
-#[unsafe(no_mangle)]
-pub extern "C" fn pella_take_in(
+pub fn pella_take_in(
     mem: &mut [u32; WORDS],
     words: usize,
     block: &mut [u8],
@@ -348,8 +347,7 @@ pub extern "C" fn pella_take_in(
 }
 
 // Sending.
-#[unsafe(no_mangle)]
-pub extern "C" fn pella_send(mem: &mut [u32; WORDS], words: usize, wheel: &mut Wheel) -> Sent
+pub fn pella_send(mem: &mut [u32; WORDS], words: usize, wheel: &mut Wheel) -> Sent
     ensures { Exported words
         ((result ≡ not_sent 201 0) × (mem.new ≡ mem.old) × (wheel.new ≡ wheel.old))
         (Given as_sent result (Sends mem.old mem.new wheel.old wheel.new)) }
@@ -361,8 +359,7 @@ pub extern "C" fn pella_send(mem: &mut [u32; WORDS], words: usize, wheel: &mut W
 }
 
 // An event on a ticket, with the bytes moved.
-#[unsafe(no_mangle)]
-pub extern "C" fn pella_report(
+pub fn pella_report(
     mem: &mut [u32; WORDS],
     words: usize,
     ticket: u32,
@@ -384,8 +381,7 @@ pub extern "C" fn pella_report(
 }
 
 // Abort, by ticket.
-#[unsafe(no_mangle)]
-pub extern "C" fn pella_abort(mem: &mut [u32; WORDS], words: usize, ticket: u32) -> u32
+pub fn pella_abort(mem: &mut [u32; WORDS], words: usize, ticket: u32) -> u32
     ensures { Exported words ((result ≡ 201) × (mem.new ≡ mem.old))
         (Given as_aborted result (λ a. Alone mem.old mem.new (abort (the_ticket ticket)) (aborting_says a))) }
 {
@@ -396,8 +392,7 @@ pub extern "C" fn pella_abort(mem: &mut [u32; WORDS], words: usize, ticket: u32)
 }
 
 // Freeze a unit.
-#[unsafe(no_mangle)]
-pub extern "C" fn pella_freeze(mem: &mut [u32; WORDS], words: usize, unit: u32) -> u32
+pub fn pella_freeze(mem: &mut [u32; WORDS], words: usize, unit: u32) -> u32
     ensures { Exported words ((result ≡ 201) × (mem.new ≡ mem.old))
         (Given as_frozen result (λ a. Freezes mem.old mem.new (the_unit unit) (freeze (the_unit unit)) (freezing_says a))) }
 {
@@ -408,8 +403,7 @@ pub extern "C" fn pella_freeze(mem: &mut [u32; WORDS], words: usize, unit: u32) 
 }
 
 // Release a unit.
-#[unsafe(no_mangle)]
-pub extern "C" fn pella_release(mem: &mut [u32; WORDS], words: usize, unit: u32) -> u32
+pub fn pella_release(mem: &mut [u32; WORDS], words: usize, unit: u32) -> u32
     ensures { Exported words ((result ≡ 201) × (mem.new ≡ mem.old))
         (Given as_frozen result (λ a. Freezes mem.old mem.new (the_unit unit) (release (the_unit unit)) (freezing_says a))) }
 {
@@ -420,8 +414,7 @@ pub extern "C" fn pella_release(mem: &mut [u32; WORDS], words: usize, unit: u32)
 }
 
 // Tick.
-#[unsafe(no_mangle)]
-pub extern "C" fn pella_tick(mem: &mut [u32; WORDS], words: usize, wheel: &mut Wheel) -> u32
+pub fn pella_tick(mem: &mut [u32; WORDS], words: usize, wheel: &mut Wheel) -> u32
     ensures { Exported words
         ((result ≡ 201) × (mem.new ≡ mem.old) × (wheel.new ≡ wheel.old))
         ((result ≡ 0) × Ticks mem.old mem.new wheel.old wheel.new wheel.new.clock) }
@@ -434,8 +427,7 @@ pub extern "C" fn pella_tick(mem: &mut [u32; WORDS], words: usize, wheel: &mut W
 }
 
 // Bus reset.
-#[unsafe(no_mangle)]
-pub extern "C" fn pella_reset(mem: &mut [u32; WORDS], words: usize) -> u32
+pub fn pella_reset(mem: &mut [u32; WORDS], words: usize) -> u32
     ensures { Exported words ((result ≡ 201) × (mem.new ≡ mem.old)) ((result ≡ 0) × Alone mem.old mem.new reset done) }
 {
     if words < WORDS {
@@ -446,8 +438,7 @@ pub extern "C" fn pella_reset(mem: &mut [u32; WORDS], words: usize) -> u32
 }
 
 // A look at the finished line.
-#[unsafe(no_mangle)]
-pub extern "C" fn pella_look(mem: &[u32; WORDS], words: usize) -> First
+pub fn pella_look(mem: &[u32; WORDS], words: usize) -> First
     ensures { Exported words (result ≡ not_found 201) (Given as_first result (λ a. Alone mem.now mem.now look (looking_says a))) }
 {
     if words < WORDS {
@@ -457,8 +448,7 @@ pub extern "C" fn pella_look(mem: &[u32; WORDS], words: usize) -> First
 }
 
 // Hand back, with a lent block.
-#[unsafe(no_mangle)]
-pub extern "C" fn pella_hand_back(mem: &mut [u32; WORDS], words: usize, block: &mut [u8]) -> Handed
+pub fn pella_hand_back(mem: &mut [u32; WORDS], words: usize, block: &mut [u8]) -> Handed
     ensures { Exported words
         ((result ≡ not_handed 201) × (mem.new ≡ mem.old) × (block.new ≡ block.old))
         (Given as_handed result (λ a. HandsBack mem.old mem.new block.old block.new (handing_back_says a))) }
