@@ -1,6 +1,6 @@
 -- The few plain things that the other files are written with: tests on numbers, a table of which the first row that applies
 -- counts, and what can be said of a list element by element. (The choice by a test is the library's.) Assumes nothing.
-use Rattle.std.specs.Prelude.{Bool, true, false, ◌||◌, List, [], ◌∷◌, ℕ, ◌+◌, eqb, ltb, leb, if◌then◌else◌}
+use Rattle.std.specs.Prelude.{Bool, false, ◌||◌, List, [], ◌∷◌, ℕ, ◌+◌, eqb, ltb, leb, if◌then◌else◌}
 
 infix 50 ◌=?◌ ◌<?◌ ◌≤?◌
 abbrev pub ◌=?◌ : ℕ → ℕ → Bool

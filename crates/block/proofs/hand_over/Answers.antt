@@ -2,7 +2,6 @@
 use Prim.Native.Nat.{◌≤◌, ◌<◌}
 use native.Mathlib.Omega.{arith}
 use borrow.Author.Tests.{lt-ltb, le-ltb, ne_eqb, eq-eqb}
-use borrow.Author.Rules.{rules}
 use lib.ListN.{length}
 use Rattle.board.specs.Block.{whole_block}
 use Rattle.board.specs.Calls.{not_its_block}

@@ -3,7 +3,6 @@ use mathlib.Core.Path.{◌≡◌, ◌∙◌}
 use Prim.Native.Nat.{suc, ◌-◌, ◌<◌}
 use native.Mathlib.Omega.{arith}
 use borrow.Author.Tests.{lt-ltb, le-ltb}
-use borrow.Author.Rules.{rules}
 use mir.Syntax.{w32}
 use mir.ValLaws.{to_z_pos, to_z-of_z}
 use Rattle.board.specs.Block.{signed}

@@ -1,6 +1,5 @@
 -- `block::tell` meets its contract: seven bytes are written, each within the block. Assumes nothing.
 use native.Mathlib.Omega.{arith}
-use borrow.Author.Rules.{rules}
 use lib.ListN.{length-set}
 use mir.Syntax.{w32}
 use mir.ValLaws.{to_z-of_z}

@@ -3,7 +3,7 @@ use native.Mathlib.Omega.{arith}
 use mir.Syntax.{w32}
 use mir.ValLaws.{to_z_pos}
 use Rattle.board.specs.Block.{word}
-use Rattle.block.proofs.Signed.{Up, Down, up, down}
+use Rattle.block.proofs.Signed.{up, down}
 use Rattle.block.proofs.word_of.Goals as goal
 
 pub overflow_sub-below : goal.overflow_sub-below

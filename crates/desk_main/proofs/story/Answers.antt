@@ -2,7 +2,6 @@
 use mathlib.Core.Path.{ap, ◌∙◌}
 use Rattle.board.specs.Block.{word}
 use Rattle.desk_main.specs.Story.{as_expected}
-use borrow.Author.Rules.{rules}
 use Rattle.desk_main.proofs.story.Goals as goal
 
 pub returns : goal.returns

@@ -1,6 +1,5 @@
 -- `ends::abort_end` meets its contract. Assumes nothing.
 use Rattle.ends.specs.Model.{abort_done, plainly}
-use Rattle.std.proofs.Common.{rules}
 use Rattle.ends.proofs.abort_end.Goals as goal
 
 pub returns-then-a : goal.returns-then-a

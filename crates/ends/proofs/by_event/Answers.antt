@@ -1,6 +1,5 @@
 -- `ends::by_event` meets its contract. Assumes nothing.
 use Rattle.ends.specs.Model.{by_event}
-use Rattle.std.proofs.Common.{rules}
 use Rattle.ends.proofs.by_event.Goals as goal
 
 pub returns-in-AbortDone : goal.returns-in-AbortDone

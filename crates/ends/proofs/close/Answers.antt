@@ -1,5 +1,5 @@
 -- `ends::close` meets its contract. Assumes nothing.
-use Rattle.std.proofs.Common.{sym, ◌∙◌, rules}
+use Rattle.std.proofs.Common.{sym, ◌∙◌}
 use Rattle.ends.specs.Closing.{closed}
 use Rattle.ends.proofs.Small.{small}
 use Rattle.ends.proofs.close.Goals as goal

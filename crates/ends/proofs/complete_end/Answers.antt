@@ -1,5 +1,5 @@
 -- `ends::complete_end` meets its contract. Assumes nothing.
-use Rattle.std.proofs.Common.{to_z-of_z, w32, rules}
+use Rattle.std.proofs.Common.{to_z-of_z, w32}
 use Rattle.ends.specs.Model.{completely}
 use Rattle.ends.proofs.complete_end.Goals as goal
 

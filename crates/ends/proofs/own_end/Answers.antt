@@ -1,5 +1,4 @@
 -- `ends::own_end` meets its contract. Assumes nothing.
-use Rattle.std.proofs.Common.{rules}
 use Rattle.ends.proofs.own_end.Goals as goal
 
 pub returns : goal.returns

@@ -1,5 +1,5 @@
 -- `ends::plain_end` meets its contract. Assumes nothing.
-use Rattle.std.proofs.Common.{to_z-of_z, w32, rules}
+use Rattle.std.proofs.Common.{to_z-of_z, w32}
 use Rattle.ends.specs.Model.{plainly}
 use Rattle.ends.proofs.plain_end.Goals as goal
 

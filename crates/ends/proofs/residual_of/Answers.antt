@@ -1,5 +1,5 @@
 -- `ends::residual_of` meets its contract. Assumes nothing.
-use Rattle.std.proofs.Common.{◌∙◌, w32, rules}
+use Rattle.std.proofs.Common.{◌∙◌, w32}
 use mir.ValLaws.{to_z_pos, to_z-of_z}
 use Rattle.ends.proofs.Residual.{mag_diff}
 use Rattle.ends.proofs.residual_of.Goals as goal

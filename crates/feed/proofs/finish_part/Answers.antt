@@ -2,7 +2,7 @@
 use native.Mathlib.Omega.{arith}
 use mathlib.Core.Path.{sym}
 use lib.Seq.{length-take-le}
-use Rattle.feed.proofs.Lining.{last_none, last_line}
+use Rattle.feed.proofs.Lining.{last_line}
 use Rattle.feed.proofs.finish_part.Goals as goal
 
 pub slice_bounds-append-end : goal.slice_bounds-append-end
