@@ -7,7 +7,7 @@ use Rattle.board.specs.declared.Request.{Request}
 use Rattle.board.specs.Plain.{◌<?◌, ◌≤?◌, Row, ◌⇒◌, first_that_applies}
 use Rattle.board.specs.Board.{the_ticket, units, places, last_ticket, Board, live, next_ticket}
 use Rattle.board.specs.Block.{byte, fields, request, with_status}
-use Rattle.board.specs.Answers.{Answer, refused, taken}
+use Rattle.board.specs.Answers.{refused, taken}
 use Rattle.board.specs.TakingIn.{Verdict, refuse, accept, address_held, checks_of_block, checks_of_board, verdict, joined, judged, taking_in}
 use Rattle.board.specs.Calls.{take_in, step}
 use Rattle.board.proofs.Choose.{neither, not_below, when_at_most, unless_at_most}
@@ -189,20 +189,6 @@ module _ (m : List ℕ) (t : Ticket) (s : List ℕ) (q : Request) (front : Bool)
   -- none of them applies
   accepts : (r : Rest) → Valid m r → held_to 32 m q.address ≡ false → r.given < last_ticket → head m 0 < 32 → verdict (view m r) s ≡ accept
   accepts r v h l f = words_verdict false false false r v h (unless_at_most l) (unless_at_most (one_free m r v f))
-
--- the three, as the code comes to them: s' is the block afterwards, given' the last ticket given and a the answer
-module _ (m s s' : List ℕ) (given given' : ℕ) (a : Answer) (t : Ticket) (q : Request) (front : Bool) where
-  pub held_refuses : passed q front ≡ examined t s → true ≡ held_to 32 m q.address → s' ≡ with_status 0x06 s → a ≡ refused 0x06 → given' ≡ given
-      → TakesIn m m s s' given given' a
-  held_refuses e h o w k = rw (o, w, k) (address_refuses m t s q front given (passes t s q front (sym e)) (sym h))
-
-  pub last_refuses : passed q front ≡ examined t s → false ≡ held_to 32 m q.address → last_ticket ≤ given → s' ≡ with_status 0x05 s → a ≡ refused 0x05 → given' ≡ given
-      → TakesIn m m s s' given given' a
-  last_refuses e h l o w k = rw (o, w, k) (ticket_refuses m t s q front given (passes t s q front (sym e)) (sym h) l)
-
-  pub full_refuses : passed q front ≡ examined t s → false ≡ held_to 32 m q.address → given < last_ticket → 32 ≤ head m 0 → s' ≡ with_status 0x05 s → a ≡ refused 0x05 → given' ≡ given
-      → TakesIn m m s s' given given' a
-  full_refuses e h l n o w k = rw (o, w, k) (places_refuse m t s q front given (passes t s q front (sym e)) (sym h) l n)
 
 -- ---- a request is taken in
 

@@ -1,5 +1,5 @@
 -- `block::tell` meets its contract: seven bytes are written, each within the block. Assumes nothing.
-use native.Mathlib.Omega.{arith}
+use Rattle.std.proofs.Common.{arith, rules}
 use lib.ListN.{length-set}
 use mir.Syntax.{w32}
 use mir.ValLaws.{to_z-of_z}
@@ -26,5 +26,4 @@ bounds-block-59 c = simp length-set (omega arith)
 
 pub returns : goal.returns
 unfolding with_told bytes4
-returns c = let fits = c.struct_told-1.given.1.1.1.0.1 in
-    rw (c.word_of-n.ensures, to_z-of_z w32 c.args.told.residual (record { sfits = fits }))
+returns c = rw (c.word_of-n.ensures, to_z-of_z w32 c.args.told.residual (record { sfits = search rules }))
