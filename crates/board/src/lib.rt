@@ -29,7 +29,7 @@ impl From<u32> for Unit {
 }
 
 // The 12 CDB bytes as three little-endian words, as the definitions have them.
-#[derive(Clone, Copy)]
+#[derive(Clone, Copy, Debug, PartialEq, Eq)]
 pub struct Cdb {
     pub first: u32,
     pub second: u32,
@@ -67,7 +67,7 @@ pub struct Active {
 
 // What a block is told when its request is handed back: the status byte, the SCSI status, the autosense residual and
 // the residual.
-#[derive(Clone, Copy)]
+#[derive(Clone, Copy, Debug, PartialEq, Eq)]
 pub struct Told {
     pub status: u8,
     pub scsi: u8,
@@ -178,7 +178,7 @@ impl From<Refusal> for u8 {
 }
 
 // A request that is sent.
-#[derive(Clone, Copy)]
+#[derive(Clone, Copy, Debug, PartialEq, Eq)]
 pub struct Sent {
     pub ticket: Ticket,
     pub unit: Unit,
@@ -186,7 +186,7 @@ pub struct Sent {
 }
 
 // Sending: what is sent, if anything, and how many units were looked at.
-#[derive(Clone, Copy)]
+#[derive(Clone, Copy, Debug, PartialEq, Eq)]
 pub struct Sending {
     pub sent: Option<Sent>,
     pub looked: u8,
@@ -243,7 +243,7 @@ impl From<NoSuchUnit> for u8 {
 }
 
 // What a look at the finished line sees, unless it is empty: its first request.
-#[derive(Clone, Copy)]
+#[derive(Clone, Copy, Debug, PartialEq, Eq)]
 pub struct First {
     pub ticket: Ticket,
     pub address: u32,
@@ -252,7 +252,7 @@ pub struct First {
 }
 
 // What is handed back: the ticket, and what its block was told.
-#[derive(Clone, Copy)]
+#[derive(Clone, Copy, Debug, PartialEq, Eq)]
 pub struct Handed {
     pub ticket: Ticket,
     pub told: Told,

@@ -2,7 +2,7 @@
 use Rattle.std.proofs.Common.{◌≡◌, ℕ, zero, suc, ◌+◌, ◌<◌, false, List, [], ◌∷◌, ◌++◌, map, sym, refl, ap, ◌∙◌, subst, arith}
 use native.Mathlib.Decide.{ℕ_discrete}
 use mathlib.Core.Logic.{by_cases}
-use mathlib.Core.Option.{none, some}
+use Rattle.std.specs.Prelude.{None, Some}
 use Rattle.board.specs.declared.Ticket.{Ticket}
 use Rattle.board.specs.declared.Unit.{Unit}
 use Rattle.board.specs.declared.Request.{Request}
@@ -33,33 +33,33 @@ use Rattle.desk.proofs.Marks.{asked_rows, asked_view}
 
 module _ {A : Type 0} (ticket_of : A → Ticket) (t : Ticket) where
   -- what is found in the first list is found
-  find_first : (xs ys : List A) (x : A) → find ticket_of t xs ≡ some x → find ticket_of t (xs ++ ys) ≡ some x
+  find_first : (xs ys : List A) (x : A) → find ticket_of t xs ≡ Some x → find ticket_of t (xs ++ ys) ≡ Some x
   unfolding find
   find_first [] ys x = λ e. none≢some e
   find_first (z ∷ zs) ys x =
-      both_ifs (λ o o'. o ≡ some x → o' ≡ some x) (same_ticket (ticket_of z) t) (some z) (find ticket_of t zs) (some z) (find ticket_of t (zs ++ ys)) (λ e. e) (find_first zs ys x)
+      both_ifs (λ o o'. o ≡ Some x → o' ≡ Some x) (same_ticket (ticket_of z) t) (Some z) (find ticket_of t zs) (Some z) (find ticket_of t (zs ++ ys)) (λ e. e) (find_first zs ys x)
 
   -- where the first has none, the second is searched
-  find_second : (xs ys : List A) → find ticket_of t xs ≡ none → find ticket_of t (xs ++ ys) ≡ find ticket_of t ys
+  find_second : (xs ys : List A) → find ticket_of t xs ≡ None → find ticket_of t (xs ++ ys) ≡ find ticket_of t ys
   unfolding find
   find_second [] ys = λ e. refl
   find_second (z ∷ zs) ys =
-      both_ifs (λ o o'. o ≡ none → o' ≡ find ticket_of t ys) (same_ticket (ticket_of z) t) (some z) (find ticket_of t zs) (some z) (find ticket_of t (zs ++ ys)) (λ e. none≢some (sym e)) (find_second zs ys)
+      both_ifs (λ o o'. o ≡ None → o' ≡ find ticket_of t ys) (same_ticket (ticket_of z) t) (Some z) (find ticket_of t zs) (Some z) (find ticket_of t (zs ++ ys)) (λ e. none≢some (sym e)) (find_second zs ys)
 
-  units_none : (n : ℕ) (f : Unit → List A) → ((w : ℕ) → w < n → find ticket_of t (f (the_unit w)) ≡ none) → find ticket_of t (of_units n f) ≡ none
+  units_none : (n : ℕ) (f : Unit → List A) → ((w : ℕ) → w < n → find ticket_of t (f (the_unit w)) ≡ None) → find ticket_of t (of_units n f) ≡ None
   unfolding of_units find
   units_none zero f e = refl
   units_none (suc n) f e = find_second (of_units n f) (f (the_unit n)) (units_none n f (λ w h. e w (omega arith))) ∙ e n (omega arith)
 
   -- the first unit whose list has it
-  units_first : (n u : ℕ) (f : Unit → List A) (x : A) → u < n → ((w : ℕ) → w < u → find ticket_of t (f (the_unit w)) ≡ none) → find ticket_of t (f (the_unit u)) ≡ some x → find ticket_of t (of_units n f) ≡ some x
+  units_first : (n u : ℕ) (f : Unit → List A) (x : A) → u < n → ((w : ℕ) → w < u → find ticket_of t (f (the_unit w)) ≡ None) → find ticket_of t (f (the_unit u)) ≡ Some x → find ticket_of t (of_units n f) ≡ Some x
   unfolding of_units
   units_first zero u f x h e k = absurd (omega arith)
   units_first (suc n) u f x h e k =
       by_cases (ℕ_discrete u n)
       (λ z.
-      let here : find ticket_of t (f (the_unit n)) ≡ some x = subst (λ i. find ticket_of t (f (the_unit i)) ≡ some x) z k in
-      let before : (w : ℕ) → w < n → find ticket_of t (f (the_unit w)) ≡ none = λ w l. e w (omega arith) in
+      let here : find ticket_of t (f (the_unit n)) ≡ Some x = subst (λ i. find ticket_of t (f (the_unit i)) ≡ Some x) z k in
+      let before : (w : ℕ) → w < n → find ticket_of t (f (the_unit w)) ≡ None = λ w l. e w (omega arith) in
       find_second (of_units n f) (f (the_unit n)) (units_none n f before) ∙ here)
       (λ d. find_first (of_units n f) (f (the_unit n)) x (units_first n u f x (omega arith) e k))
 
@@ -78,7 +78,7 @@ module _ (m : List ℕ) (r : Rest) (t : Ticket) (v : Valid m r) where
   abbrev b : Board
   b = view m r
 
-  unit_none : (w : ℕ) → w < 64 → stands m (3 + w) t.0 ≡ false → find ticket_of_request t (b.waiting (the_unit w)) ≡ none
+  unit_none : (w : ℕ) → w < 64 → stands m (3 + w) t.0 ≡ false → find ticket_of_request t (b.waiting (the_unit w)) ≡ None
   unfolding stands
   unit_none w h e =
       ap (find ticket_of_request t) (waiting_on m r (the_unit w) h)
@@ -88,16 +88,16 @@ module _ (m : List ℕ) (r : Rest) (t : Ticket) (v : Valid m r) where
       go (At q p) z = true≢false z
       go Nowhere z = refl
 
-  waits_nowhere : WaitsOn m t.0 64 → find ticket_of_request t (all_waiting b) ≡ none
+  waits_nowhere : WaitsOn m t.0 64 → find ticket_of_request t (all_waiting b) ≡ None
   waits_nowhere o = units_none ticket_of_request t units b.waiting (λ w h. unit_none w h (o.none_before w h))
 
   module _ (u q p : ℕ) (hu : u < 64) (o : WaitsOn m t.0 u) (s : Sought m (3 + u) t q p) where
-    found_here : find ticket_of_request t (b.waiting (the_unit u)) ≡ some (request_at m p)
+    found_here : find ticket_of_request t (b.waiting (the_unit u)) ≡ Some (request_at m p)
     found_here =
         ap (find ticket_of_request t) (waiting_on m r (the_unit u) hu ∙ ap (map (request_at m)) s.parted)
         ∙ find_parted ticket_of_request m (request_at m) (λ x. refl) t s.a s.b p s.before s.ticket
 
-    found_waiting : find ticket_of_request t (all_waiting b) ≡ some (request_at m p)
+    found_waiting : find ticket_of_request t (all_waiting b) ≡ Some (request_at m p)
     found_waiting = units_first ticket_of_request t units u b.waiting (request_at m p) hu (λ w h. unit_none w (omega arith) (o.none_before w h)) found_here
 
     -- what waits, waits on its own unit

@@ -1,11 +1,11 @@
 -- Eligibility and the rotation: the loops a step at a time, and that the words' test is the board's. Assumes nothing.
 use Rattle.std.proofs.Common.{◌≡◌, ℕ, zero, suc, ◌+◌, ◌-◌, ◌%◌, ◌<◌, ◌≤◌, Bool, true, false, cond, not, ◌||◌, eqb, leb, ◌≢◌, List, [], ◌∷◌, map, length, sym, refl, ap, ◌∙◌, mod-lt, arith, lit<, eq-eqb, ne_eqb, le-leb}
+use Rattle.std.specs.Prelude.{Some, None}
 use borrow.Author.Tests.{lt-leb}
 use Rattle.board.specs.declared.Unit.{Unit}
-use Rattle.board.specs.declared.Rotation.TheVariants.{Found, Nobody}
 use Rattle.board.specs.Plain.{any}
 use Rattle.board.specs.Board.{the_unit, units, is_frozen}
-use Rattle.board.specs.Sending.{waits, busy, eligible, after, rotation}
+use Rattle.board.specs.Sending.{waits, busy, eligible, after, found, rotation}
 use Rattle.rows.specs.Words.{next, head}
 use Rattle.rows.specs.Rows.{Run, row_of}
 use Rattle.rows.proofs.Shown.{run_of, row_short}
@@ -42,11 +42,11 @@ module _ (m : List ℕ) (u h i : ℕ) where
 -- ---- the rotation, a step at a time: after n - 1 units 65 - n are left
 
 module _ (able : Unit → Bool) (mark : Unit) (n : ℕ) where
-  pub rotation_over : 64 < n → rotation able mark (65 - n) n ≡ Nobody
+  pub rotation_over : 64 < n → rotation able mark (65 - n) n ≡ None
   unfolding rotation
   rotation_over h = let e : 65 - n ≡ 0 = omega arith in ap (λ z. rotation able mark z n) e
 
-  pub rotation_stop : n ≤ 64 → able (after mark n) ≡ true → rotation able mark (65 - n) n ≡ Found (after mark n) n
+  pub rotation_stop : n ≤ 64 → able (after mark n) ≡ true → rotation able mark (65 - n) n ≡ Some (found (after mark n) n)
   unfolding rotation
   rotation_stop h t = let e : 65 - n ≡ suc (65 - (n + 1)) = omega arith in ap (λ z. rotation able mark z n) e ∙ rw t
 

@@ -1,12 +1,12 @@
 -- Freeze and release, on the words: one law for both. Assumes nothing.
-use Rattle.std.specs.Prelude.{if◌then◌else◌}
+use Rattle.std.specs.Prelude.{Result, if◌then◌else◌}
 use Rattle.std.proofs.Common.{◌≡◌, ℕ, ◌+◌, ◌<◌, ◌≤◌, Bool, true, false, cond, not, List, [], set, sym, refl, ap, ◌∙◌, subst, arith, get_or-set_same}
 use mathlib.Core.Path.{fun_ext}
 use Rattle.board.specs.declared.Unit.{Unit}
-use Rattle.board.specs.declared.Freezing.{Freezing}
+use Rattle.board.specs.declared.NoSuchUnit.{NoSuchUnit}
 use Rattle.board.specs.Plain.{◌=?◌}
 use Rattle.board.specs.Board.{the_unit, same_unit, at, units, Freeze, no_freeze, is_frozen, freeze_number, one_freeze, one_release, Board, with_freeze}
-use Rattle.board.specs.Answers.{refused, before, Stepped, says, freezing_says}
+use Rattle.board.specs.Answers.{refused, before, bit, Stepped, says, freezing_says}
 use Rattle.board.specs.Calls.{freezing, Call, freeze, release, step}
 use Rattle.board.proofs.Choose.{by_cases, same, differ, when_below, unless_below, one_unit, at_same, at_other}
 use Rattle.rows.specs.Rows.{SoundRows}
@@ -30,13 +30,9 @@ pub release_back : (n : ℕ) → one_release (freeze_of n) ≡ freeze_of 0
 unfolding one_release freeze_of
 release_back n = refl
 
-pub number_back : (n : ℕ) → freeze_number (freeze_of n) ≡ (if n =? 0 then 0 else 1)
+pub number_back : (n : ℕ) → freeze_number (freeze_of n) ≡ bit (not (n =? 0))
 unfolding freeze_number freeze_of
-number_back n = go (n =? 0)
-  where
-    go : (c : Bool) → ◌≡◌ {A = ℕ} (if not c then 1 else 0) (if c then 0 else 1)
-    go true = refl
-    go false = refl
+number_back n = refl
 
 pub frozen_back : (n : ℕ) → is_frozen (freeze_of n) ≡ not (n =? 0)
 unfolding is_frozen freeze_of
@@ -117,7 +113,7 @@ module _ (change : Freeze → Freeze) (x : ℕ) (back : (n : ℕ) → change (fr
       let e : step (view m r) c ≡ says (view m r) (refused 103) = is (view m r) ∙ ap (by (view m r)) (unless_below h) in
       does (λ v. v.rows) (λ v. sym (ap (λ s. s.board) e)) (λ v. sym (ap (λ s. s.answer) e)) (λ v. sym (ap (λ s. s.lent) e)) (λ n z. refl)
 
-  freeze_changed : (m : List ℕ) (r : Rest) → u.0 < units → Does m (set m (262 + u.0) x) r r c (before (if freeze_at m u.0 =? 0 then 0 else 1)) []
+  freeze_changed : (m : List ℕ) (r : Rest) → u.0 < units → Does m (set m (262 + u.0) x) r r c (before (bit (not (freeze_at m u.0 =? 0)))) []
   unfolding freezing
   freeze_changed m r h =
       let b = view m r in
@@ -131,19 +127,19 @@ module _ (change : Freeze → Freeze) (x : ℕ) (back : (n : ℕ) → change (fr
       (λ v. sym (ap (λ s. s.lent) e))
       (λ n y. let k : ◌≡◌ {A = ℕ} 0 1 = cc in absurd (omega arith))
 
-  freezing_does : (m m' : List ℕ) (r : Rest) (f : Freezing) → FreezeSet m m' u.0 x f → Does m m' r r c (freezing_says f) []
+  freezing_does : (m m' : List ℕ) (r : Rest) (f : Result Bool NoSuchUnit) → FreezeSet m m' u.0 x f → Does m m' r r c (freezing_says f) []
   freezing_does m m' r f (no_such_unit h e) = subst (λ n. Does m n r r c (refused 103) []) (sym e) (not_a_unit m r h)
-  freezing_does m m' r f (freeze_set h e) = subst (λ n. Does m n r r c (before (if freeze_at m u.0 =? 0 then 0 else 1)) []) (sym e) (freeze_changed m r h)
+  freezing_does m m' r f (freeze_set h e) = subst (λ n. Does m n r r c (before (bit (not (freeze_at m u.0 =? 0)))) []) (sym e) (freeze_changed m r h)
 
-  freezes_no_unit : (m m' : List ℕ) (f : Freezing) → FreezeSet m m' u.0 x f → units ≤ u.0 → freezing_says f ≡ refused 103
+  freezes_no_unit : (m m' : List ℕ) (f : Result Bool NoSuchUnit) → FreezeSet m m' u.0 x f → units ≤ u.0 → freezing_says f ≡ refused 103
   freezes_no_unit m m' f (no_such_unit h e) k = refl
   freezes_no_unit m m' f (freeze_set h e) k = absurd (omega (arith, h, k))
 
-  refused_only_then : (m m' : List ℕ) (f : Freezing) → FreezeSet m m' u.0 x f → (n : ℕ) → freezing_says f ≡ refused n → units ≤ u.0
+  refused_only_then : (m m' : List ℕ) (f : Result Bool NoSuchUnit) → FreezeSet m m' u.0 x f → (n : ℕ) → freezing_says f ≡ refused n → units ≤ u.0
   refused_only_then m m' f (no_such_unit h e) n z = h
   refused_only_then m m' f (freeze_set h e) n z = let y : ◌≡◌ {A = ℕ} 0 1 = cc in absurd (omega arith)
 
-  pub freezes : (m m' : List ℕ) (f : Freezing) → FreezeSet m m' u.0 x f → Freezes m m' u c (freezing_says f)
+  pub freezes : (m m' : List ℕ) (f : Result Bool NoSuchUnit) → FreezeSet m m' u.0 x f → Freezes m m' u c (freezing_says f)
   freezes m m' f s = record { does = λ r. freezing_does m m' r f s; no_unit = freezes_no_unit m m' f s; only_then = refused_only_then m m' f s }
 
 pub freeze_is : (u : Unit) (b : Board) → step b (freeze u) ≡ freezing one_freeze b u

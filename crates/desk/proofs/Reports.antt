@@ -1,20 +1,18 @@
 -- An event on a ticket, on the words. Assumes nothing.
 use Rattle.std.proofs.Common.{◌≡◌, ℕ, Bool, not, ◌||◌, List, [], ◌++◌, map, sym, refl, ap, ◌∙◌, subst, arith}
-use mathlib.Core.Option.{none, some}
+use Rattle.std.specs.Prelude.{Some, None, Result, Ok, Err}
 use Rattle.board.specs.declared.Ticket.{Ticket}
 use Rattle.board.specs.declared.Event.{Event}
 use Rattle.board.specs.declared.End.{End}
-use Rattle.board.specs.declared.Ending.{Ending}
-use Rattle.board.specs.declared.Ending.TheVariants as ending_is
 use Rattle.board.specs.declared.Told.{Told}
-use Rattle.board.specs.declared.Reporting.{Reporting}
+use Rattle.board.specs.declared.Implausible.{Implausible}
+use Rattle.board.specs.declared.Unreported.{Unreported}
 use Rattle.board.specs.Plain.{◌=?◌}
 use Rattle.board.specs.Board.{the_unit, find, without, ticket_of_active, is_frozen, Freeze, Board, with_active, with_freeze}
 use Rattle.board.specs.Answers.{refused, done, reporting_says}
 use Rattle.board.specs.Ending.{ending, freeze_after, told, ended_active, reported_by, reported, reporting}
 use Rattle.board.specs.Calls.{event, step}
-use Rattle.ends.specs.declared.Closing.{Closing}
-use Rattle.ends.specs.declared.Closing.TheVariants as closing
+use Rattle.ends.specs.declared.Closed.{Closed}
 use Rattle.ends.specs.Closing.{bad, closed}
 use Rattle.ends.proofs.Laws.{capped_same, frozen_after}
 use Rattle.rows.specs.Words.{head, the_place, seek_from}
@@ -33,7 +31,7 @@ use Rattle.desk.proofs.Finishes.{finished_carried, finished_active}
 
 -- ---- the ticket isn't active
 
-pub active_none : (m : List ℕ) (r : Rest) (t : Ticket) → seek_from 32 m t.0 32 (head m 2) ≡ Nowhere → Valid m r → find ticket_of_active t (view m r).active ≡ none
+pub active_none : (m : List ℕ) (r : Rest) (t : Ticket) → seek_from 32 m t.0 32 (head m 2) ≡ Nowhere → Valid m r → find ticket_of_active t (view m r).active ≡ None
 unfolding view
 active_none m r t e v = find_none ticket_of_active m (active_at m) (λ x. refl) t (row_of m 2) (not_sought m 2 t e v.rows (omega arith))
 
@@ -44,7 +42,7 @@ report_none m r t e moved z = unchanged (refused 101) [] (λ v. ap (reported (vi
 -- ---- it stands at place p of the active row
 
 module _ (m : List ℕ) (r : Rest) (t : Ticket) (q p : ℕ) (s : Sought m 2 t q p) (v : SoundRows m) where
-  pub found_active : find ticket_of_active t (view m r).active ≡ some (active_at m p)
+  pub found_active : find ticket_of_active t (view m r).active ≡ Some (active_at m p)
   unfolding view
   found_active = ap (λ l. find ticket_of_active t (map (active_at m) l)) s.parted ∙ find_parted ticket_of_active m (active_at m) (λ x. refl) t s.a s.b p s.before s.ticket
 
@@ -89,24 +87,24 @@ module _ (m : List ℕ) (r : Rest) (t : Ticket) (q p : ℕ) (s : Sought m 2 t q 
       ∙ rw (own_ticket, left_active, yes))
 
 -- from the closing found back to the ending: a refusal is one
-refused_back : (y : Ending) (frozen : Bool) → closed y frozen ≡ closing.Refused → y ≡ ending_is.Refused
+refused_back : (y : Result End Implausible) (frozen : Bool) → closed y frozen ≡ Err (record {}) → y ≡ Err (record {})
 unfolding closed
-refused_back ending_is.Refused frozen z = refl
-refused_back (ending_is.Ended x) frozen z = let k : ◌≡◌ {A = ℕ} 0 1 = cc in absurd (omega arith)
+refused_back (Err why) frozen z = refl
+refused_back (Ok x) frozen z = let k : ◌≡◌ {A = ℕ} 0 1 = cc in absurd (omega arith)
 
 -- and an end is one, told of with its unit's freeze
-record EndedBack (y : Ending) (frozen : Bool) (x : Told) (b : Bool) : Type 0 where
+record EndedBack (y : Result End Implausible) (frozen : Bool) (x : Told) (b : Bool) : Type 0 where
   pub end : End
-  pub same : y ≡ ending_is.Ended end
+  pub same : y ≡ Ok end
   pub tells : x ≡ told end (frozen || bad end.base)
   pub freezes : b ≡ bad end.base
 
-ended_back : (y : Ending) (frozen : Bool) (x : Told) (b : Bool) → closed y frozen ≡ closing.Closed x b → EndedBack y frozen x b
+ended_back : (y : Result End Implausible) (frozen : Bool) (x : Told) (b : Bool) → closed y frozen ≡ Ok (record { told = x; bad = b }) → EndedBack y frozen x b
 unfolding closed
-ended_back ending_is.Refused frozen x b z = let k : ◌≡◌ {A = ℕ} 0 1 = cc in absurd (omega arith)
-ended_back (ending_is.Ended e) frozen x b z = record { end = e; same = refl; tells = cc; freezes = cc }
+ended_back (Err why) frozen x b z = let k : ◌≡◌ {A = ℕ} 0 1 = cc in absurd (omega arith)
+ended_back (Ok e) frozen x b z = record { end = e; same = refl; tells = cc; freezes = cc }
 
-pub report_some : (m m' : List ℕ) (r : Rest) (t : Ticket) (q p : ℕ) (e : Event) (moved : ℕ) (c : Reporting)
+pub report_some : (m m' : List ℕ) (r : Rest) (t : Ticket) (q p : ℕ) (e : Event) (moved : ℕ) (c : Result Unit Unreported)
     → seek_from 32 m t.0 32 (head m 2) ≡ At (the_place q) (the_place p) → Reported m m' q p (closing_of m p e moved) c → Does m m' r r (event t e moved) (reporting_says c) []
 unfolding closing_of reported_by ended_board
 report_some m m' r t q p e moved c at k =
@@ -115,12 +113,12 @@ report_some m m' r t q p e moved c at k =
     frozen : Bool
     frozen = not (freeze_at m (unit_at m p) =? 0)
 
-    ends : (x : End) (y : Told) (d : Bool) → ending (active_at m p) e moved ≡ ending_is.Ended x → y ≡ told x (frozen || bad x.base) → d ≡ bad x.base → ToldFits y → (v : Valid m r)
+    ends : (x : End) (y : Told) (d : Bool) → ending (active_at m p) e moved ≡ Ok x → y ≡ told x (frozen || bad x.base) → d ≡ bad x.base → ToldFits y → (v : Valid m r)
         → Leaves (frozen_if (finished_words m 2 q p y) (unit_at m p) d) r done [] (step (view m r) (event t e moved))
     ends x y d z tells freezes f v =
         let s = sought m 2 t q p at v.rows (omega arith) in
         let n = finished_words m 2 q p y in
-        subst (Leaves (frozen_if n (unit_at m p) d) r done []) (sym (step_found m r t q p s v.rows e moved (ending_is.Ended x) z))
+        subst (Leaves (frozen_if n (unit_at m p) d) r done []) (sym (step_found m r t q p s v.rows e moved (Ok x) z))
         (record {
           rows = (same_rows _ _ (frozen_if_links n (unit_at m p) d (omega arith)) (finished_carried m 2 q p y s.a s.b v.rows (omega arith) (omega arith) s.parted s.last f).sound).0;
           board = rw (tells, freezes) (ended_view m r t q p s v.rows x (subst ToldFits tells f));
@@ -128,10 +126,10 @@ report_some m m' r t q p e moved c at k =
           lent = refl;
         })
 
-    go : (w : Closing) (c : Reporting) → closed (ending (active_at m p) e moved) frozen ≡ w → Reported m m' q p w c → Does m m' r r (event t e moved) (reporting_says c) []
+    go : (w : Result Closed Implausible) (c : Result Unit Unreported) → closed (ending (active_at m p) e moved) frozen ≡ w → Reported m m' q p w c → Does m m' r r (event t e moved) (reporting_says c) []
     go w c z (refused_event h) =
         subst (λ n. Does m n r r (event t e moved) (refused 102) []) (sym h)
-        (unchanged (refused 102) [] (λ v. step_found m r t q p (sought m 2 t q p at v.rows (omega arith)) v.rows e moved ending_is.Refused (refused_back (ending (active_at m p) e moved) frozen z)))
+        (unchanged (refused 102) [] (λ v. step_found m r t q p (sought m 2 t q p at v.rows (omega arith)) v.rows e moved (Err (record {})) (refused_back (ending (active_at m p) e moved) frozen z)))
     go w c z (ended_event x d h f) =
         let back = ended_back (ending (active_at m p) e moved) frozen x d z in
         subst (λ n. Does m n r r (event t e moved) done []) (sym h)

@@ -1,14 +1,13 @@
 -- Sending, on the words. Assumes nothing.
-use Rattle.std.specs.Prelude.{if◌then◌else◌}
+use Rattle.std.specs.Prelude.{Option, Some, None, if◌then◌else◌}
 use Rattle.std.proofs.Common.{◌≡◌, ℕ, ◌+◌, ◌<◌, ◌≤◌, Bool, true, false, not, ◌&&◌, eqb, leb, ◌≢◌, List, [], ◌∷◌, ◌++◌, map, length, sym, refl, ap, ◌∙◌, subst, arith, leb-false}
 use lib.ListN.{length-map}
 use Rattle.board.specs.declared.Unit.{Unit}
 use Rattle.board.specs.declared.Request.{Request}
-use Rattle.board.specs.declared.Rotation.{Rotation}
-use Rattle.board.specs.declared.Rotation.TheVariants.{Found, Nobody}
+use Rattle.board.specs.declared.Found.{Found}
 use Rattle.board.specs.Board.{units, most_active, Board}
 use Rattle.board.specs.Answers.{sent, nothing, Stepped, says}
-use Rattle.board.specs.Sending.{eligible, rotation, sent_from, sent_first, sent_by, sending}
+use Rattle.board.specs.Sending.{eligible, found, rotation, sent_from, sent_first, sent_by, sending}
 use Rattle.board.specs.Calls.{send, step}
 use Rattle.board.proofs.Choose.{both, not-true, when_at_most, unless_at_most}
 use Rattle.board.proofs.Moves.{FoundAble, found_able}
@@ -42,7 +41,7 @@ unfolding step sending
 step_full m r h v = ap (by (view m r)) (when_at_most {m = most_active} {n = length (view m r).active} (let e = active_length m r v in let d = eight in omega arith))
 
 -- what the rotation finds on the words, it finds on the board
-step_by : (m : List ℕ) (r : Rest) → length_from 32 m (head m 2) < 8 → (s : Rotation) → rotation (can_send m) r.mark 64 1 ≡ s → Valid m r → step (view m r) send ≡ sent_by (view m r) s
+step_by : (m : List ℕ) (r : Rest) → length_from 32 m (head m 2) < 8 → (s : Option Found) → rotation (can_send m) r.mark 64 1 ≡ s → Valid m r → step (view m r) send ≡ sent_by (view m r) s
 unfolding step sending view
 step_by m r h s e v =
     ap (by (view m r)) (unless_at_most {m = most_active} {n = length (view m r).active} (let l = active_length m r v in let d = eight in omega arith))
@@ -55,15 +54,15 @@ send_full m r h =
 pub full_sends : (m : List ℕ) (clock : ℕ) (mark : Unit) → 8 ≤ length_from 32 m (head m 2) → Sends m m clock mark mark (nothing 0)
 full_sends m clock mark h = record { does = λ given. send_full m (the_rest clock mark given) h; idle = λ n e. refl }
 
-pub send_none : (m : List ℕ) (r : Rest) → length_from 32 m (head m 2) < 8 → rotation (can_send m) r.mark 64 1 ≡ Nobody → Does m m r r send (nothing 64) []
+pub send_none : (m : List ℕ) (r : Rest) → length_from 32 m (head m 2) < 8 → rotation (can_send m) r.mark 64 1 ≡ None → Does m m r r send (nothing 64) []
 unfolding sent_by
 send_none m r h e =
-    does (λ v. v.rows) (λ v. sym (ap (λ s. s.board) (step_by m r h Nobody e v))) (λ v. sym (ap (λ s. s.answer) (step_by m r h Nobody e v))) (λ v. sym (ap (λ s. s.lent) (step_by m r h Nobody e v))) (λ n e. refl)
+    does (λ v. v.rows) (λ v. sym (ap (λ s. s.board) (step_by m r h None e v))) (λ v. sym (ap (λ s. s.answer) (step_by m r h None e v))) (λ v. sym (ap (λ s. s.lent) (step_by m r h None e v))) (λ n e. refl)
 
 -- ---- a request is sent
 
 -- whatever the words hold: what the rotation finds is a unit, and its row has a first place
-pub found_unit : (m : List ℕ) (mark u : Unit) (n : ℕ) → rotation (can_send m) mark 64 1 ≡ Found u n → (u.0 < 64) × (head m (3 + u.0) < 32)
+pub found_unit : (m : List ℕ) (mark u : Unit) (n : ℕ) → rotation (can_send m) mark 64 1 ≡ Some (found u n) → (u.0 < 64) × (head m (3 + u.0) < 32)
 unfolding can_send
 found_unit m mark u n e =
     let f : (u.0 < 64) × (can_send m u ≡ true) = subst (FoundAble (can_send m)) e (found_able (can_send m) mark 64 1) in
@@ -127,12 +126,12 @@ module _ (m : List ℕ) (r : Rest) (u : Unit) (hu : u.0 < 64) (hp : head m (3 + 
   first_waiting : (view m r).waiting u ≡ request_at m p ∷ map (request_at m) more
   first_waiting = waiting_on m r u hu ∙ ap (map (request_at m)) (row_some m v.rows k (omega arith) hp).1
 
-  step_some : (n : ℕ) → length_from 32 m (head m 2) < 8 → rotation (can_send m) r.mark 64 1 ≡ Found u n
+  step_some : (n : ℕ) → length_from 32 m (head m 2) < 8 → rotation (can_send m) r.mark 64 1 ≡ Some (found u n)
       → step (view m r) send ≡ says (sent_from u (request_at m p) (map (request_at m) more) (view m r)) (sent (request_at m p).ticket u (request_at m p).cdb n)
   unfolding sent_by sent_first
-  step_some n h e = step_by m r h (Found u n) e v ∙ ap (sent_first (view m r) u n) first_waiting
+  step_some n h e = step_by m r h (Some (found u n)) e v ∙ ap (sent_first (view m r) u n) first_waiting
 
-pub send_some : (m : List ℕ) (r : Rest) (u : Unit) (n : ℕ) → length_from 32 m (head m 2) < 8 → rotation (can_send m) r.mark 64 1 ≡ Found u n
+pub send_some : (m : List ℕ) (r : Rest) (u : Unit) (n : ℕ) → length_from 32 m (head m 2) < 8 → rotation (can_send m) r.mark 64 1 ≡ Some (found u n)
     → let q = request_at m (head m (3 + u.0)) in
     Does m (launched m u.0 r.clock) r (the_rest r.clock u r.given) send (sent q.ticket u q.cdb n) []
 send_some m r u n h e =

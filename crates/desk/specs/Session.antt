@@ -1,7 +1,6 @@
 -- Calls made one after the other on a memory, each keeping its promise; and demand 3 of the desk itself. It speaks of promises alone,
 -- of no code. proofs/Sessions.antt proves it. Assumes nothing.
-use Rattle.std.specs.Prelude.{◌≡◌, ℕ, false, ◌≢◌, List, [], ◌∷◌}
-use Rattle.std.proofs.Math.Option.{some}
+use Rattle.std.specs.Prelude.{◌≡◌, ℕ, false, ◌≢◌, List, [], ◌∷◌, Some}
 use Rattle.board.specs.declared.Ticket.{Ticket}
 use Rattle.board.specs.declared.Unit.{Unit}
 use Rattle.board.specs.declared.Active.{Active}
@@ -65,7 +64,7 @@ pub record Desk : Type 1 where
   pub release_alone : {m n : List ℕ} {r s : Rest} {a : Answer} {lent : List ℕ} (u : Unit) → Valid m r → Does m n r s (release u) a lent → SameButFreeze u (view m r) (view n s)
   pub event_alone : {m n : List ℕ} {r s : Rest} {a : Answer} {lent : List ℕ} (t : Ticket) (e : Event) (moved : ℕ) (x : Active) (v : Unit)
       → Valid m r
-      → find ticket_of_active t (view m r).active ≡ some x
+      → find ticket_of_active t (view m r).active ≡ Some x
       → v ≢ x.request.unit
       → Does m n r s (event t e moved) a lent
       → SameRecords v (view m r) (view n s)

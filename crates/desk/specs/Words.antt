@@ -7,12 +7,11 @@
 --       j = 0 unit, 1 callback, 2 callback wanted, 3 data length, 4 sense length, 5 autosense not disabled, 6 timeout, 7 to 9 CDB;
 --       while it is active 10 start, 11 asked, 12 overdue;
 --       when it is finished 10 status byte, 11 SCSI status, 12 autosense residual, 13 residual
-use Rattle.std.specs.Prelude.{◌≡◌, ℕ, zero, suc, ◌+◌, ◌*◌, ◌%◌, ◌<◌, ◌≤◌, Bool, true, false, cond, not, ◌&&◌, List, [], ◌∷◌, ◌==◌, nat_le, slice_index, slice_set, if◌then◌else◌}
+use Rattle.std.specs.Prelude.{◌≡◌, ℕ, zero, suc, ◌+◌, ◌*◌, ◌%◌, ◌<◌, ◌≤◌, Bool, true, false, cond, not, ◌&&◌, List, [], ◌∷◌, Result, Ok, Err, ◌==◌, nat_le, slice_index, slice_set, if◌then◌else◌}
 use Rattle.board.specs.declared.Unit.{Unit}
 use Rattle.board.specs.declared.Request.{Request}
 use Rattle.board.specs.declared.Told.{Told}
-use Rattle.board.specs.declared.Freezing.{Freezing}
-use Rattle.board.specs.declared.Freezing.TheVariants as freezing
+use Rattle.board.specs.declared.NoSuchUnit.{NoSuchUnit}
 use Rattle.board.specs.Plain.{◌=?◌}
 use Rattle.board.specs.Block.{word, signed}
 use Rattle.rows.specs.Words.{next, head, popped, put_last, cut_out}
@@ -54,10 +53,10 @@ closed m p x = stores m p 10 (x.status ∷ x.scsi ∷ x.unsensed ∷ word x.resi
 
 -- ---- freezing
 
--- unit u's freeze becomes x, from m to m', with this answer: 1 if it was frozen before, else 0
-pub data FreezeSet (m m' : List ℕ) (u x : ℕ) : Freezing → Type 0 where
-  no_such_unit : 64 ≤ u → m' ≡ m → FreezeSet m m' u x freezing.NoSuchUnit
-  freeze_set : u < 64 → m' ≡ slice_set m (262 + u) x → FreezeSet m m' u x (freezing.Before (if freeze_at m u =? 0 then 0 else 1))
+-- unit u's freeze becomes x, from m to m', with this answer: whether it was frozen before
+pub data FreezeSet (m m' : List ℕ) (u x : ℕ) : Result Bool NoSuchUnit → Type 0 where
+  no_such_unit : 64 ≤ u → m' ≡ m → FreezeSet m m' u x (Err (record {}))
+  freeze_set : u < 64 → m' ≡ slice_set m (262 + u) x → FreezeSet m m' u x (Ok (not (freeze_at m u =? 0)))
 
 -- ---- sending
 

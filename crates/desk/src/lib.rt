@@ -4,14 +4,14 @@
 
 ghost use Rattle.std.specs.Prelude.{◌≡◌, ℕ, ◌+◌, ◌<◌, []};
 ghost use Rattle.board.specs.Board.{the_unit};
-ghost use Rattle.board.specs.Answers.{aborting_says, done, freezing_says, handing_back_says, looking_says, number, refused, reporting_says, sending_says, taking_in_says, time};
+ghost use Rattle.board.specs.Answers.{aborting_says, done, freezing_says, handing_back_says, looking_says, reporting_says, sending_says, taking_in_says, time};
 ghost use Rattle.board.specs.Block.{with_status};
 ghost use Rattle.board.specs.Calls.{abort, event, freeze, release, look, reset, send, tick};
 ghost use Rattle.board.specs.Sending.{rotation};
 ghost use Rattle.rows.specs.Words.{head};
 ghost use Rattle.desk.specs.Words.{bit, written, freeze_at, FreezeSet, busy_from, can_send, launched, closed, ToldFits, finished_words, frozen_if, unit_at};
 ghost use Rattle.desk.specs.Aborts.{stands, WaitsOn, aborted_told, aborted_words, asked_words};
-ghost use Rattle.desk.specs.TakingIn.{held_to, entered};
+ghost use Rattle.desk.specs.TakingIn.{held_to, entered, status_said};
 ghost use Rattle.desk.specs.Events.{closing_of, Reported};
 ghost use Rattle.desk.specs.View.{request_at, active_at, finished_at, Rest, the_rest};
 ghost use Rattle.desk.specs.Begins.{cleared};
@@ -19,12 +19,12 @@ ghost use Rattle.desk.specs.Ticking.{marked, marked_from};
 ghost use Rattle.desk.specs.Resets.{reset_told, reset_words, smallest_spot, SmallestEnded};
 ghost use Rattle.desk.specs.Promise.{Does, Freezes, HandsBack, Sends, TakesIn, Ticks, Fresh};
 
-use block::Examined;
+use block::Passed;
 use board::{
-    Aborting, Active, Cdb, Event, Finished, Freezing, HandingBack, Looking, Refusal, Reporting,
-    Request, Rotation, Sending, TakingIn, Ticket, Told, Unit,
+    Active, Cdb, Event, Finished, First, Found, Handed, NoSuchUnit, NotHanded, Refusal, Request,
+    Sending, Sent, Ticket, Told, UnableToAbort, Unit, Unreported,
 };
-use ends::Closing;
+use ends::Closed;
 use rows::{Place, Spot, WORDS};
 
 // A word as an index.
@@ -161,100 +161,84 @@ fn enter(mem: &mut [u32; WORDS], p: Place, q: Request, front: bool)
     }
 }
 
-// What taking in gives: the answer, and the last ticket given afterwards.
-#[derive(Clone, Copy)]
-pub struct Took {
-    pub answer: TakingIn,
-    pub given: u32,
+// A block is let in: checks 1 to 8 on the block, 9 to 11 on the board, first that applies; else its request gets the next ticket and
+// waits. (Byte 7 is written afterwards.)
+fn admit(mem: &mut [u32; WORDS], block: &[u8], given: &mut u32) -> Result<Ticket, Refusal>
+    ensures { TakesIn mem.old mem.new block.now (with_status (status_said result) block.now) given.old given.new (taking_in_says result) }
+{
+    let ticket = Ticket(given.wrapping_add(1));
+    let Passed { request, front } = block::examine(block, ticket)?;
+    if address_held(mem, request.address) {
+        return Err(Refusal::InvalidRequest);
+    }
+    if *given == u32::MAX {
+        return Err(Refusal::CamBusy);
+    }
+    let p = rows::first_of(mem, 0);
+    if 32 <= p.0 {
+        return Err(Refusal::CamBusy);
+    }
+    enter(mem, p, request, front);
+    *given = ticket.0;
+    Ok(ticket)
 }
 
-// A refusal: its number is written to byte 7, and no ticket is given.
-fn refuse(block: &mut [u8], why: Refusal, given: u32) -> Took
-    ensures { (block.new ≡ with_status (number why) block.old) × (taking_in_says result.answer ≡ refused (number why)) × (result.given ≡ given) }
+// Take a request in. `given` is the last ticket given. Byte 7 tells the block: 00h, or the refusal's number.
+pub fn take_in(mem: &mut [u32; WORDS], block: &mut [u8], given: &mut u32) -> Result<Ticket, Refusal>
+    ensures { TakesIn mem.old mem.new block.old block.new given.old given.new (taking_in_says result) }
 {
-    block::write_status(block, board::number_of(why));
-    Took {
-        answer: TakingIn::Refused(why),
-        given,
-    }
-}
-
-// Take a request in: checks 1 to 8 on the block, 9 to 11 on the board, first that applies; else it gets the next ticket.
-pub fn take_in(mem: &mut [u32; WORDS], block: &mut [u8], given: u32) -> Took
-    ensures { TakesIn mem.old mem.new block.old block.new given result.given (taking_in_says result.answer) }
-{
-    let ticket = Ticket(std::num::wrapping_add_u32(given, 1));
-    match block::examine(block, ticket) {
-        Examined::Refused(why) => refuse(block, why, given),
-        Examined::Passed { request, front } => {
-            let address = request.address;
-            if address_held(mem, address) {
-                return refuse(block, Refusal::InvalidRequest, given);
-            }
-            if given == 0xFFFFFFFF {
-                return refuse(block, Refusal::CamBusy, given);
-            }
-            let p = rows::first_of(mem, 0);
-            if 32 <= p.0 {
-                return refuse(block, Refusal::CamBusy, given);
-            }
-            enter(mem, p, request, front);
-            block::write_status(block, 0);
-            Took {
-                answer: TakingIn::Taken(ticket),
-                given: ticket.0,
-            }
-        }
-    }
+    let taken = admit(mem, block, given);
+    let status = match taken {
+        Ok(_) => 0x00,
+        Err(why) => u8::from(why),
+    };
+    block::write_status(block, status);
+    taken
 }
 
 // ---- the finished line
 
 // Look at the finished line: the first ticket, address, callback and whether callback is wanted, or "empty".
-pub fn look(mem: &[u32; WORDS]) -> Looking
+pub fn look(mem: &[u32; WORDS]) -> Option<First>
     ensures { (rest : Rest) → Does mem.now mem.now rest rest look (looking_says result) [] }
 {
     let p = rows::first_of(mem, 1);
     if 32 <= p.0 {
-        return Looking::Empty;
+        return None;
     }
     let q = request_at(mem, p);
-    let ticket = q.ticket;
-    Looking::First {
-        ticket,
+    Some(First {
+        ticket: q.ticket,
         address: q.address,
         callback: q.callback,
         wanted: q.wanted,
-    }
+    })
 }
 
 // ---- freeze and release
 
-// A unit's freeze becomes x, whatever it was: 1 if it was frozen before, else 0; refused above 63.
-fn set_freeze(mem: &mut [u32; WORDS], u: Unit, x: u32) -> Freezing
+// A unit's freeze becomes x, whatever it was: whether it was frozen before; refused above 63.
+fn set_freeze(mem: &mut [u32; WORDS], u: Unit, x: u32) -> Result<bool, NoSuchUnit>
     ensures { FreezeSet mem.old mem.new u.0 x result }
 {
-    let i = u.0 as usize;
+    let i = usize::from(u.0);
     if 64 <= i {
-        return Freezing::NoSuchUnit;
+        return Err(NoSuchUnit);
     }
     let was = mem[262 + i];
     mem[262 + i] = x;
-    if was == 0 {
-        return Freezing::Before(0);
-    }
-    Freezing::Before(1)
+    Ok(was != 0)
 }
 
 // Freeze a unit.
-pub fn freeze(mem: &mut [u32; WORDS], u: Unit) -> Freezing
+pub fn freeze(mem: &mut [u32; WORDS], u: Unit) -> Result<bool, NoSuchUnit>
     ensures { Freezes mem.old mem.new u (freeze u) (freezing_says result) }
 {
     set_freeze(mem, u, 1)
 }
 
 // Release a unit.
-pub fn release(mem: &mut [u32; WORDS], u: Unit) -> Freezing
+pub fn release(mem: &mut [u32; WORDS], u: Unit) -> Result<bool, NoSuchUnit>
     ensures { Freezes mem.old mem.new u (release u) (freezing_says result) }
 {
     set_freeze(mem, u, 0)
@@ -297,22 +281,23 @@ fn can_go(mem: &[u32; WORDS], u: usize) -> bool
     !is_busy(mem, u)
 }
 
-// Look at units from mark + 1 round to the mark itself, and stop at the first eligible one.
-fn rotate(mem: &[u32; WORDS], mark: Unit) -> Rotation
+// Look at units from mark + 1 round to the mark itself, and stop at the first eligible one. (Document 01 names the form: a loop that
+// breaks with the found unit and its count, or ends with none.)
+fn rotate(mem: &[u32; WORDS], mark: Unit) -> Option<Found>
     ensures { result ≡ rotation (can_send mem.now) mark 64 1 }
 {
     let from = mark.0 as usize;
     let mut n: usize = 1;
     loop {
         if 64 < n {
-            break Rotation::Nobody;
+            break None;
         }
         let u = (from + n) % 64;
         if can_go(mem, u) {
-            break Rotation::Found {
+            break Some(Found {
                 unit: Unit(u as u8),
                 looked: n as u8,
-            };
+            });
         }
         n += 1;
     }
@@ -348,27 +333,30 @@ pub fn send(mem: &mut [u32; WORDS], clock: u32, mark: Unit) -> Went
 {
     if 8 <= rows::length_of(mem, 2) {
         return Went {
-            answer: Sending::Nothing { looked: 0 },
+            answer: Sending {
+                sent: None,
+                looked: 0,
+            },
             mark,
         };
     }
-    let found = rotate(mem, mark);
-    match found {
-        Rotation::Nobody => Went {
-            answer: Sending::Nothing { looked: 64 },
+    match rotate(mem, mark) {
+        None => Went {
+            answer: Sending {
+                sent: None,
+                looked: 64,
+            },
             mark,
         },
-        Rotation::Found { unit, looked } => {
+        Some(Found { unit, looked }) => {
             let q = launch(mem, wide8(unit.0), clock);
-            let ticket = q.ticket;
-            let cdb = q.cdb;
+            let sent = Some(Sent {
+                ticket: q.ticket,
+                unit,
+                cdb: q.cdb,
+            });
             Went {
-                answer: Sending::Sent {
-                    ticket,
-                    unit,
-                    cdb,
-                    looked,
-                },
+                answer: Sending { sent, looked },
                 mark: unit,
             }
         }
@@ -398,23 +386,23 @@ fn finished_at(mem: &[u32; WORDS], p: Place) -> Finished
 }
 
 // Hand back with a lent block: its seven bytes are written, and the first finished request is removed; its place is free.
-pub fn hand_back(mem: &mut [u32; WORDS], block: &mut [u8]) -> HandingBack
+pub fn hand_back(mem: &mut [u32; WORDS], block: &mut [u8]) -> Result<Handed, NotHanded>
     ensures { HandsBack mem.old mem.new block.old block.new (handing_back_says result) }
 {
     let p = rows::first_of(mem, 1);
     if 32 <= p.0 {
-        return HandingBack::Empty;
+        return Err(NotHanded::LineEmpty);
     }
     let x = finished_at(mem, p);
     if !block::hand_over(block, x) {
-        return HandingBack::NotItsBlock;
+        return Err(NotHanded::NotItsBlock);
     }
     rows::take_first(mem, 1, p);
     rows::put_last(mem, 0, p);
-    let q = x.request;
-    let ticket = q.ticket;
-    let told = x.told;
-    HandingBack::Handed { ticket, told }
+    Ok(Handed {
+        ticket: x.request.ticket,
+        told: x.told,
+    })
 }
 
 // ---- how a request ends
@@ -470,29 +458,36 @@ fn freeze_if(mem: &mut [u32; WORDS], u: usize, bad: bool)
 }
 
 // An event on the active request at a place; q is the place before it in its row, or 32.
-fn report_at(mem: &mut [u32; WORDS], q: Place, p: Place, what: Event, moved: u32) -> Reporting
+fn report_at(
+    mem: &mut [u32; WORDS],
+    q: Place,
+    p: Place,
+    what: Event,
+    moved: u32,
+) -> Result<(), Unreported>
     requires { p.0 < 32 }
     ensures { Reported mem.old mem.new q.0 p.0 (closing_of mem.old p.0 what moved) result }
 {
     let a = active_at(mem, p);
     let i = unit_at(mem, p);
     let frozen = mem[262 + i] != 0;
-    match ends::close(a, what, moved, frozen) {
-        Closing::Refused => Reporting::Implausible,
-        Closing::Closed { told, bad } => {
-            finish(mem, 2, q, p, told);
-            freeze_if(mem, i, bad);
-            Reporting::Ended
-        }
-    }
+    let Closed { told, bad } = ends::close(a, what, moved, frozen)?;
+    finish(mem, 2, q, p, told);
+    freeze_if(mem, i, bad);
+    Ok(())
 }
 
 // The adapter reports an event on a ticket, with the bytes moved.
-pub fn report(mem: &mut [u32; WORDS], ticket: Ticket, what: Event, moved: u32) -> Reporting
+pub fn report(
+    mem: &mut [u32; WORDS],
+    ticket: Ticket,
+    what: Event,
+    moved: u32,
+) -> Result<(), Unreported>
     ensures { (rest : Rest) → Does mem.old mem.new rest rest (event ticket what moved) (reporting_says result) [] }
 {
     match rows::seek(mem, 2, ticket) {
-        Spot::Nowhere => Reporting::NotActive,
+        Spot::Nowhere => Err(Unreported::NotActive),
         Spot::At { before, place } => report_at(mem, before, place, what, moved),
     }
 }
@@ -547,35 +542,35 @@ fn end_waiting(mem: &mut [u32; WORDS], u: usize, q: Place, p: Place)
 }
 
 // Abort by ticket, waiting on unit u.
-fn abort_waiting(mem: &mut [u32; WORDS], u: usize, ticket: Ticket) -> Aborting
+fn abort_waiting(mem: &mut [u32; WORDS], u: usize, ticket: Ticket) -> Result<(), UnableToAbort>
     requires { (u < 64) × WaitsOn mem.old ticket.0 u }
     ensures { (rest : Rest) → Does mem.old mem.new rest rest (abort ticket) (aborting_says result) [] }
 {
     match rows::seek(mem, 3 + u, ticket) {
-        Spot::Nowhere => Aborting::UnableToAbort,
+        Spot::Nowhere => Err(UnableToAbort),
         Spot::At { before, place } => {
             end_waiting(mem, u, before, place);
-            Aborting::Done
+            Ok(())
         }
     }
 }
 
 // Abort by ticket, not waiting.
-fn abort_active(mem: &mut [u32; WORDS], ticket: Ticket) -> Aborting
+fn abort_active(mem: &mut [u32; WORDS], ticket: Ticket) -> Result<(), UnableToAbort>
     requires { WaitsOn mem.old ticket.0 64 }
     ensures { (rest : Rest) → Does mem.old mem.new rest rest (abort ticket) (aborting_says result) [] }
 {
     match rows::seek(mem, 2, ticket) {
-        Spot::Nowhere => Aborting::UnableToAbort,
+        Spot::Nowhere => Err(UnableToAbort),
         Spot::At { before, place } => {
             mark_asked(mem, place);
-            Aborting::Done
+            Ok(())
         }
     }
 }
 
 // Abort by ticket: waiting ends at once, active is marked asked, else refusal 03h.
-pub fn abort(mem: &mut [u32; WORDS], ticket: Ticket) -> Aborting
+pub fn abort(mem: &mut [u32; WORDS], ticket: Ticket) -> Result<(), UnableToAbort>
     ensures { (rest : Rest) → Does mem.old mem.new rest rest (abort ticket) (aborting_says result) [] }
 {
     let u = waits_on(mem, ticket);
@@ -619,7 +614,7 @@ fn mark_late(mem: &mut [u32; WORDS], clock: u32)
 pub fn tick(mem: &mut [u32; WORDS], clock: u32) -> u32
     ensures { Ticks mem.old mem.new clock result }
 {
-    let next = std::num::wrapping_add_u32(clock, 1);
+    let next = clock.wrapping_add(1);
     mark_late(mem, next);
     next
 }

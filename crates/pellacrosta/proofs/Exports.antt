@@ -12,7 +12,9 @@ use Rattle.desk.specs.Promise.{Freezes}
 use Rattle.desk.proofs.Views.{does_as}
 use Rattle.wheel.specs.declared.Wheel.{Wheel}
 use Rattle.wheel.specs.Turned.{Ticks}
-use Rattle.pellacrosta.specs.declared.Meant.{Meant}
+use Rattle.std.specs.Prelude.{Result}
+use Rattle.board.specs.declared.Event.{Event}
+use Rattle.pellacrosta.specs.declared.Unclear.{Unclear}
 use Rattle.pellacrosta.specs.Exported.{desk_words, Exported, Reports}
 
 pub refuses : {words : ℕ} {refused works : Type 0} → words < desk_words → refused → Exported words refused works
@@ -26,8 +28,8 @@ pub ticks_to_its_clock : (m m' : List ℕ) (w w' : Wheel) (r : ℕ) → Ticks m 
 ticks_to_its_clock m m' w w' r d = subst (λ (k : ℕ). Ticks m m' w w' k) (sym d.clock) d
 
 -- a report, by what its numbers mean
-pub reports : (m m' : List ℕ) (t : Ticket) (moved r : ℕ) {k k' : Meant} → k ≡ k' → Reports m m' t k moved r → Reports m m' t k' moved r
-reports m m' t moved r e = subst (λ (k : Meant). Reports m m' t k moved r) e
+pub reports : (m m' : List ℕ) (t : Ticket) (moved r : ℕ) {k k' : Result Event Unclear} → k ≡ k' → Reports m m' t k moved r → Reports m m' t k' moved r
+reports m m' t moved r e = subst (λ (k : Result Event Unclear). Reports m m' t k moved r) e
 
 -- a freeze or a release by a number in 8 bits is that of the number itself
 pub freezes_numbered : (m m' : List ℕ) (u : Unit) (n : ℕ) (a : Answer) {c c' : Call} → u.0 ≡ min n 255 → ((b : Board) → step b c ≡ step b c') → Freezes m m' u c a → Freezes m m' (the_unit n) c' a

@@ -12,8 +12,9 @@ use Rattle.desk.specs.View.{Rest, the_rest}
 use Rattle.desk.specs.Session.{over, after}
 use Rattle.wheel.specs.declared.Wheel.{Wheel}
 use Rattle.wheel.specs.Turned.{rest_of}
-use Rattle.pellacrosta.specs.declared.Meant.{Meant}
-use Rattle.pellacrosta.specs.declared.Meant.TheVariants.{Event, Unclear}
+use Rattle.std.specs.Prelude.{Result, Ok, Err}
+use Rattle.board.specs.declared.Event.{Event}
+use Rattle.pellacrosta.specs.declared.Unclear.{Unclear}
 use Rattle.pellacrosta.specs.Exported.{desk_words, Exported, Reports}
 use Rattle.pellacrosta.specs.Sessions.{with_words, reporting, Made, called, refused, AllMade, DeskSession, InC}
 use Rattle.pellacrosta.specs.Sessions as in_C_only
@@ -34,9 +35,9 @@ all_of : {m' : List ℕ} {r' : Rest} {m : List ℕ} {r : Rest} {calls : List Cal
 all_of in_C_only.over = record { answers = []; blocks = []; session = over }
 all_of (in_C_only.after m n r s calls later x xs) = before m n r s calls later x (all_of xs)
 
-reported : (m m' : List ℕ) (t : Ticket) (moved r : ℕ) (e : Meant) (rest : Rest) → Reports m m' t e moved r → Made m m' rest rest (reporting t e moved)
-reported m m' t moved r (Event e) rest x = called _ _ _ (x.keeps rest)
-reported m m' t moved r (Unclear n) rest x = refused x.1 refl
+reported : (m m' : List ℕ) (t : Ticket) (moved r : ℕ) (e : Result Event Unclear) (rest : Rest) → Reports m m' t e moved r → Made m m' rest rest (reporting t e moved)
+reported m m' t moved r (Ok e) rest x = called _ _ _ (x.keeps rest)
+reported m m' t moved r (Err why) rest x = refused x.1 refl
 
 pub in_C : InC
 in_C = record {

@@ -1,13 +1,14 @@
 -- What an exported call promises: what the desk and the wheel promise, in C's form; and refusal 201, which is the library's own, where
 -- fewer words are lent than a desk has. Assumes nothing.
-use Rattle.std.specs.Prelude.{ℕ, ◌≤◌, ◌<◌, ◌≡◌, List, []}
+use Rattle.std.specs.Prelude.{ℕ, ◌≤◌, ◌<◌, ◌≡◌, List, [], Result, Ok, Err}
 use Rattle.board.specs.declared.Ticket.{Ticket}
+use Rattle.board.specs.declared.Event.{Event}
 use Rattle.board.specs.Answers.{Answer, reporting_says}
 use Rattle.board.specs.Calls.{Call, event}
 use Rattle.desk.specs.View.{Rest}
 use Rattle.desk.specs.Promise.{Does}
-use Rattle.pellacrosta.specs.declared.Meant.{Meant}
-use Rattle.pellacrosta.specs.declared.Meant.TheVariants.{Event, Unclear}
+use Rattle.pellacrosta.specs.declared.Unclear.{Unclear}
+use Rattle.pellacrosta.specs.Meaning.{unclear_number}
 use Rattle.pellacrosta.specs.Forms.{as_reported}
 
 -- how many words a desk has
@@ -30,6 +31,6 @@ abbrev pub Alone : (m m' : List ℕ) → Call → Answer → Type 0
 Alone m m' c a = (rest : Rest) → Does m m' rest rest c a []
 
 -- A report on a ticket: the event's, or, where the numbers mean no event, their refusal, which alters nothing.
-abbrev pub Reports : (m m' : List ℕ) → Ticket → Meant → (moved r : ℕ) → Type 0
-Reports m m' t (Event e) moved r = Given as_reported r (λ a. Alone m m' (event t e moved) (reporting_says a))
-Reports m m' t (Unclear n) moved r = (r ≡ n) × (m' ≡ m)
+abbrev pub Reports : (m m' : List ℕ) → Ticket → Result Event Unclear → (moved r : ℕ) → Type 0
+Reports m m' t (Ok e) moved r = Given as_reported r (λ a. Alone m m' (event t e moved) (reporting_says a))
+Reports m m' t (Err why) moved r = (r ≡ unclear_number why) × (m' ≡ m)

@@ -1,8 +1,9 @@
 -- C's calls one after the other: each is a call of the board, or is refused by the library and changes nothing. So any number of them is a
 -- session of the desk, of which demand 3 holds (Desk, in the desk's Session). proofs/InC.antt proves it. Assumes nothing.
-use Rattle.std.specs.Prelude.{ℕ, ◌≡◌, List, [], ◌∷◌, ◌++◌, if◌then◌else◌}
+use Rattle.std.specs.Prelude.{ℕ, ◌≡◌, List, [], ◌∷◌, ◌++◌, Result, Ok, Err, if◌then◌else◌}
 use Rattle.board.specs.Plain.{◌<?◌}
 use Rattle.board.specs.declared.Ticket.{Ticket}
+use Rattle.board.specs.declared.Event.{Event}
 use Rattle.board.specs.declared.Unit.{Unit}
 use Rattle.board.specs.Answers.{Answer, done, taking_in_says, aborting_says, freezing_says, looking_says, handing_back_says}
 use Rattle.board.specs.Calls.{Call}
@@ -12,8 +13,7 @@ use Rattle.desk.specs.Promise.{Does, Freezes, HandsBack, TakesIn}
 use Rattle.desk.specs.Session.{Session}
 use Rattle.wheel.specs.declared.Wheel.{Wheel}
 use Rattle.wheel.specs.Turned.{rest_of, Sends, Ticks}
-use Rattle.pellacrosta.specs.declared.Meant.{Meant}
-use Rattle.pellacrosta.specs.declared.Meant.TheVariants.{Event, Unclear}
+use Rattle.pellacrosta.specs.declared.Unclear.{Unclear}
 use Rattle.pellacrosta.specs.declared.Taken.{Taken}
 use Rattle.pellacrosta.specs.declared.Sent.{Sent}
 use Rattle.pellacrosta.specs.declared.First.{First}
@@ -25,9 +25,9 @@ use Rattle.pellacrosta.specs.Exported.{desk_words, Exported, Given, Alone, Repor
 abbrev pub with_words : (words : ℕ) → List Call → List Call
 with_words words calls = if words <? desk_words then [] else calls
 
-abbrev pub reporting : Ticket → Meant → (moved : ℕ) → List Call
-reporting t (Event e) moved = call.event t e moved ∷ []
-reporting t (Unclear n) moved = []
+abbrev pub reporting : Ticket → Result Event Unclear → (moved : ℕ) → List Call
+reporting t (Ok e) moved = call.event t e moved ∷ []
+reporting t (Err why) moved = []
 
 -- from the words m and the rest r to m' and r', by one of C's calls: a call of the board, or none and nothing is altered
 pub data Made (m m' : List ℕ) (r r' : Rest) : List Call → Type 0 where
@@ -53,7 +53,7 @@ pub record InC : Type 1 where
   pub send : {m m' : List ℕ} {w w' : Wheel} {words : ℕ} {r : Sent} (given : ℕ)
       → Exported words ((r ≡ not_sent 201 0) × (m' ≡ m) × (w' ≡ w)) (Given as_sent r (Sends m m' w w'))
       → Made m m' (rest_of w given) (rest_of w' given) (with_words words (call.send ∷ []))
-  pub report : {m m' : List ℕ} {words : ℕ} (t : Ticket) (e : Meant) (moved r : ℕ) (rest : Rest)
+  pub report : {m m' : List ℕ} {words : ℕ} (t : Ticket) (e : Result Event Unclear) (moved r : ℕ) (rest : Rest)
       → Exported words ((r ≡ 201) × (m' ≡ m)) (Reports m m' t e moved r)
       → Made m m' rest rest (with_words words (reporting t e moved))
   pub abort : {m m' : List ℕ} {words r : ℕ} {t : Ticket} (rest : Rest)

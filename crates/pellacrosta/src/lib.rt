@@ -4,21 +4,21 @@
 // the calls.
 #![tactic(auto)]
 
-ghost use Rattle.std.specs.Prelude.{◌≡◌, if◌then◌else◌};
+ghost use Rattle.std.specs.Prelude.{◌≡◌, MatchResult};
 ghost use Rattle.board.specs.Answers.{aborting_says, done, freezing_says, handing_back_says, looking_says, taking_in_says};
 ghost use Rattle.board.specs.Board.{the_ticket, the_unit};
-ghost use Rattle.board.specs.Plain.{◌=?◌};
 ghost use Rattle.board.specs.Block.{cdb_bytes};
 ghost use Rattle.board.specs.Calls.{abort, freeze, look, release, reset};
 ghost use Rattle.desk.specs.Promise.{Freezes, Fresh, HandsBack, TakesIn};
 ghost use Rattle.wheel.specs.Turned.{Sends, Ticks};
-ghost use Rattle.pellacrosta.specs.Meaning.{complete_meant, event_meant, sense_meant};
+ghost use Rattle.pellacrosta.specs.Meaning.{complete_meant, event_meant, sense_meant, unclear_number};
 ghost use Rattle.pellacrosta.specs.Forms.{as_aborted, as_first, as_frozen, as_handed, as_reported, as_sent, as_taken, not_found, not_handed, not_sent, not_taken};
+ghost use Rattle.pellacrosta.specs.declared.Unclear.TheVariants as unclear;
 ghost use Rattle.pellacrosta.specs.Exported.{Alone, Exported, Given, Reports};
 
 use board::{
-    Aborting, Cdb, Coded, Event, Freezing, HandingBack, Looking, Reporting, Sending, Sense,
-    TakingIn, Ticket,
+    Cdb, Event, NoSuchEvent, NoSuchUnit, NotHanded, Refusal, Sending, Sense, Ticket, UnableToAbort,
+    Unit, Unreported,
 };
 use rows::WORDS;
 use wheel::Wheel;
@@ -71,55 +71,67 @@ pub struct Handed {
 
 // ---- what a number of C means
 
-// What a report means: an event, or none, which is refused by a number.
-#[derive(Clone, Copy)]
-pub enum Meant {
-    Event(Event),
-    Unclear(u32),
+// Why a report's numbers mean no event: its kind is none (202), its SCSI status is no byte (203), its sense is above 257 (204).
+#[derive(Clone, Copy, Debug, PartialEq, Eq)]
+pub enum Unclear {
+    Kind,
+    Status,
+    Sense,
 }
 
-// The sense: a byte count to 255; 256 for failed; none.
-fn sense_meant(sense: u32) -> Sense
+impl From<NoSuchEvent> for Unclear {
+    ghost from_gives = { λ _ why. why ≡ unclear.Kind };
+
+    fn from(_: NoSuchEvent) -> Unclear {
+        Unclear::Kind
+    }
+}
+
+impl From<Unclear> for u32 {
+    ghost from_gives = { λ why n. n ≡ unclear_number why };
+
+    fn from(why: Unclear) -> u32 {
+        match why {
+            Unclear::Kind => 202,
+            Unclear::Status => 203,
+            Unclear::Sense => 204,
+        }
+    }
+}
+
+// The sense: a byte count to 255; 256 for failed, 257 for none.
+fn sense_meant(sense: u32) -> Result<Sense, Unclear>
     ensures { result ≡ sense_meant sense }
 {
-    if sense < 256 {
-        return Sense::Bytes(sense as u8);
+    match sense {
+        0..=255 => Ok(Sense::Bytes(sense as u8)),
+        256 => Ok(Sense::Failed),
+        257 => Ok(Sense::None),
+        _ => Err(Unclear::Sense),
     }
-    if sense == 256 {
-        return Sense::Failed;
-    }
-    Sense::None
 }
 
-// A complete event: its SCSI status is a byte, its sense at most 257.
-fn complete_meant(scsi: u32, sense: u32) -> Meant
+// A complete event: its SCSI status is a byte.
+fn complete_meant(scsi: u32, sense: u32) -> Result<Event, Unclear>
     ensures { result ≡ complete_meant scsi sense }
 {
     if 255 < scsi {
-        return Meant::Unclear(203);
+        return Err(Unclear::Status);
     }
-    if 257 < sense {
-        return Meant::Unclear(204);
-    }
-    Meant::Event(Event::Complete {
+    Ok(Event::Complete {
         status: scsi as u8,
-        sense: sense_meant(sense),
+        sense: sense_meant(sense)?,
     })
 }
 
 // The event of a kind: the kinds are the numbers that the standard has for such an end, 01h for complete.
-fn event_meant(kind: u32, scsi: u32, sense: u32) -> Meant
+fn event_meant(kind: u32, scsi: u32, sense: u32) -> Result<Event, Unclear>
     ensures { result ≡ event_meant kind scsi sense }
 {
-    if kind == 0x01 {
-        return complete_meant(scsi, sense);
-    }
-    if kind == 0x02 {
-        return Meant::Event(Event::AbortDone);
-    }
-    match board::event_named(kind) {
-        Coded::Names(what) => Meant::Event(what),
-        Coded::Nothing => Meant::Unclear(202),
+    match kind {
+        0x01 => complete_meant(scsi, sense),
+        0x02 => Ok(Event::AbortDone),
+        _ => Ok(Event::try_from(kind)?),
     }
 }
 
@@ -133,15 +145,15 @@ fn not_taken(refused: u32) -> Taken
 }
 
 // Taking in.
-fn as_taken(a: TakingIn) -> Taken
+fn as_taken(a: Result<Ticket, Refusal>) -> Taken
     ensures { result ≡ as_taken a }
 {
     match a {
-        TakingIn::Taken(t) => Taken {
+        Ok(ticket) => Taken {
             refused: 0,
-            ticket: t.0,
+            ticket: ticket.0,
         },
-        TakingIn::Refused(why) => not_taken(board::number_of(why) as u32),
+        Err(why) => not_taken(u8::from(why).into()),
     }
 }
 
@@ -149,23 +161,10 @@ fn as_taken(a: TakingIn) -> Taken
 fn bytes_of(cdb: Cdb) -> [u8; 12]
     ensures { result ≡ cdb_bytes cdb }
 {
-    let a = cdb.first;
-    let b = cdb.second;
-    let c = cdb.third;
-    [
-        (a % 256) as u8,
-        (a / 256 % 256) as u8,
-        (a / 65536 % 256) as u8,
-        (a / 16777216 % 256) as u8,
-        (b % 256) as u8,
-        (b / 256 % 256) as u8,
-        (b / 65536 % 256) as u8,
-        (b / 16777216 % 256) as u8,
-        (c % 256) as u8,
-        (c / 256 % 256) as u8,
-        (c / 65536 % 256) as u8,
-        (c / 16777216 % 256) as u8,
-    ]
+    let [a, b, c, d] = cdb.first.to_le_bytes();
+    let [e, f, g, h] = cdb.second.to_le_bytes();
+    let [i, j, k, l] = cdb.third.to_le_bytes();
+    [a, b, c, d, e, f, g, h, i, j, k, l]
 }
 
 // Nothing was sent: a refusal, or 0 and how many units were looked at.
@@ -186,62 +185,36 @@ fn not_sent(refused: u32, looked: u8) -> Sent
 fn as_sent(a: Sending) -> Sent
     ensures { result ≡ as_sent a }
 {
-    match a {
-        Sending::Sent {
-            ticket,
-            unit,
-            cdb,
-            looked,
-        } => Sent {
+    match a.sent {
+        Some(sent) => Sent {
             refused: 0,
-            ticket: ticket.0,
+            ticket: sent.ticket.0,
             sent: true,
-            unit: unit.0,
-            looked,
-            cdb: bytes_of(cdb),
+            unit: sent.unit.0,
+            looked: a.looked,
+            cdb: bytes_of(sent.cdb),
         },
-        Sending::Nothing { looked } => not_sent(0, looked),
+        None => not_sent(0, a.looked),
     }
 }
 
-// An event on a ticket.
-fn as_reported(a: Reporting) -> u32
-    ensures { result ≡ as_reported a }
+// An event on a ticket, or an abort: 0, or the refusal's number.
+fn as_done<E: Into<u8>>(a: Result<(), E>) -> u32
+    ensures { MatchResult a (λ _. result ≡ 0) (λ why. E.converts why result) }
 {
     match a {
-        Reporting::Ended => 0,
-        Reporting::NotActive => 101,
-        Reporting::Implausible => 102,
+        Ok(()) => 0,
+        Err(why) => u32::from(why.into()),
     }
 }
 
-// Abort.
-fn as_aborted(a: Aborting) -> u32
-    ensures { result ≡ as_aborted a }
-{
-    match a {
-        Aborting::Done => 0,
-        Aborting::UnableToAbort => 0x03,
-    }
-}
-
-// 0 is 0, and all else is 1.
-fn bit(n: u8) -> u32
-    ensures { result ≡ (if n =? 0 then 0 else 1) }
-{
-    if n == 0 {
-        return 0;
-    }
-    1
-}
-
-// Freeze, release.
-fn as_frozen(a: Freezing) -> u32
+// Freeze, release: 1 if the unit was frozen before, else 0.
+fn as_frozen(a: Result<bool, NoSuchUnit>) -> u32
     ensures { result ≡ as_frozen a }
 {
     match a {
-        Freezing::Before(n) => bit(n),
-        Freezing::NoSuchUnit => 103,
+        Ok(was_frozen) => was_frozen.into(),
+        Err(why) => u8::from(why).into(),
     }
 }
 
@@ -260,24 +233,19 @@ fn not_found(refused: u32) -> First
 }
 
 // A look at the finished line.
-fn as_first(a: Looking) -> First
+fn as_first(a: Option<board::First>) -> First
     ensures { result ≡ as_first a }
 {
     match a {
-        Looking::First {
-            ticket,
-            address,
-            callback,
-            wanted,
-        } => First {
+        Some(first) => First {
             refused: 0,
-            ticket: ticket.0,
-            address,
-            callback,
+            ticket: first.ticket.0,
+            address: first.address,
+            callback: first.callback,
             found: true,
-            wanted,
+            wanted: first.wanted,
         },
-        Looking::Empty => not_found(0),
+        None => not_found(0),
     }
 }
 
@@ -296,11 +264,11 @@ fn not_handed(refused: u32) -> Handed
 }
 
 // Hand back.
-fn as_handed(a: HandingBack) -> Handed
+fn as_handed(a: Result<board::Handed, NotHanded>) -> Handed
     ensures { result ≡ as_handed a }
 {
     match a {
-        HandingBack::Handed { ticket, told } => Handed {
+        Ok(board::Handed { ticket, told }) => Handed {
             refused: 0,
             ticket: ticket.0,
             residual: told.residual,
@@ -308,19 +276,21 @@ fn as_handed(a: HandingBack) -> Handed
             scsi: told.scsi,
             unsensed: told.unsensed,
         },
-        HandingBack::Empty => not_handed(104),
-        HandingBack::NotItsBlock => not_handed(105),
+        Err(why) => not_handed(u8::from(why).into()),
     }
 }
 
 // ---- the calls, in document 01's order. Each looks at the count of words first.
+
+// Fewer words are lent than a desk has: the library's own refusal.
+const TOO_FEW_WORDS: u32 = 201;
 
 // A fresh board, from any words.
 pub fn pella_fresh(mem: &mut [u32; WORDS], words: usize) -> u32
     ensures { Exported words ((result ≡ 201) × (mem.new ≡ mem.old)) ((result ≡ 0) × Fresh mem.new) }
 {
     if words < WORDS {
-        return 201;
+        return TOO_FEW_WORDS;
     }
     desk::fresh(mem);
     0
@@ -338,12 +308,9 @@ pub fn pella_take_in(
         (Given as_taken result (λ a. TakesIn mem.old mem.new block.old block.new last.old last.new (taking_in_says a))) }
 {
     if words < WORDS {
-        return not_taken(201);
+        return not_taken(TOO_FEW_WORDS);
     }
-    let took = desk::take_in(mem, block, *last);
-    *last = took.given;
-    let answer = took.answer;
-    as_taken(answer)
+    as_taken(desk::take_in(mem, block, last))
 }
 
 // Sending.
@@ -353,7 +320,7 @@ pub fn pella_send(mem: &mut [u32; WORDS], words: usize, wheel: &mut Wheel) -> Se
         (Given as_sent result (Sends mem.old mem.new wheel.old wheel.new)) }
 {
     if words < WORDS {
-        return not_sent(201, 0);
+        return not_sent(TOO_FEW_WORDS, 0);
     }
     as_sent(wheel::send(mem, wheel))
 }
@@ -372,11 +339,11 @@ pub fn pella_report(
         (Reports mem.old mem.new (the_ticket ticket) (event_meant kind scsi sense) moved result) }
 {
     if words < WORDS {
-        return 201;
+        return TOO_FEW_WORDS;
     }
     match event_meant(kind, scsi, sense) {
-        Meant::Event(what) => as_reported(desk::report(mem, Ticket(ticket), what, moved)),
-        Meant::Unclear(number) => number,
+        Ok(what) => as_done(desk::report(mem, Ticket(ticket), what, moved)),
+        Err(why) => why.into(),
     }
 }
 
@@ -386,9 +353,9 @@ pub fn pella_abort(mem: &mut [u32; WORDS], words: usize, ticket: u32) -> u32
         (Given as_aborted result (λ a. Alone mem.old mem.new (abort (the_ticket ticket)) (aborting_says a))) }
 {
     if words < WORDS {
-        return 201;
+        return TOO_FEW_WORDS;
     }
-    as_aborted(desk::abort(mem, Ticket(ticket)))
+    as_done(desk::abort(mem, Ticket(ticket)))
 }
 
 // Freeze a unit.
@@ -397,9 +364,9 @@ pub fn pella_freeze(mem: &mut [u32; WORDS], words: usize, unit: u32) -> u32
         (Given as_frozen result (λ a. Freezes mem.old mem.new (the_unit unit) (freeze (the_unit unit)) (freezing_says a))) }
 {
     if words < WORDS {
-        return 201;
+        return TOO_FEW_WORDS;
     }
-    as_frozen(desk::freeze(mem, board::unit_numbered(unit)))
+    as_frozen(desk::freeze(mem, Unit::from(unit)))
 }
 
 // Release a unit.
@@ -408,9 +375,9 @@ pub fn pella_release(mem: &mut [u32; WORDS], words: usize, unit: u32) -> u32
         (Given as_frozen result (λ a. Freezes mem.old mem.new (the_unit unit) (release (the_unit unit)) (freezing_says a))) }
 {
     if words < WORDS {
-        return 201;
+        return TOO_FEW_WORDS;
     }
-    as_frozen(desk::release(mem, board::unit_numbered(unit)))
+    as_frozen(desk::release(mem, Unit::from(unit)))
 }
 
 // Tick.
@@ -420,7 +387,7 @@ pub fn pella_tick(mem: &mut [u32; WORDS], words: usize, wheel: &mut Wheel) -> u3
         ((result ≡ 0) × Ticks mem.old mem.new wheel.old wheel.new wheel.new.clock) }
 {
     if words < WORDS {
-        return 201;
+        return TOO_FEW_WORDS;
     }
     wheel::tick(mem, wheel);
     0
@@ -431,7 +398,7 @@ pub fn pella_reset(mem: &mut [u32; WORDS], words: usize) -> u32
     ensures { Exported words ((result ≡ 201) × (mem.new ≡ mem.old)) ((result ≡ 0) × Alone mem.old mem.new reset done) }
 {
     if words < WORDS {
-        return 201;
+        return TOO_FEW_WORDS;
     }
     desk::reset(mem);
     0
@@ -442,7 +409,7 @@ pub fn pella_look(mem: &[u32; WORDS], words: usize) -> First
     ensures { Exported words (result ≡ not_found 201) (Given as_first result (λ a. Alone mem.now mem.now look (looking_says a))) }
 {
     if words < WORDS {
-        return not_found(201);
+        return not_found(TOO_FEW_WORDS);
     }
     as_first(desk::look(mem))
 }
@@ -454,7 +421,7 @@ pub fn pella_hand_back(mem: &mut [u32; WORDS], words: usize, block: &mut [u8]) -
         (Given as_handed result (λ a. HandsBack mem.old mem.new block.old block.new (handing_back_says a))) }
 {
     if words < WORDS {
-        return not_handed(201);
+        return not_handed(TOO_FEW_WORDS);
     }
     as_handed(desk::hand_back(mem, block))
 }

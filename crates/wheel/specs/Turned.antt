@@ -1,27 +1,22 @@
 -- What a tick and a send promise of the wheel and of the board. Assumes nothing.
-use Rattle.std.specs.Prelude.{ℕ, suc, ◌%◌, ◌^◌, ◌≡◌, List, []}
+use Rattle.std.specs.Prelude.{ℕ, suc, ◌%◌, ◌^◌, ◌≡◌, List, [], Option, Some, None}
+use Rattle.board.specs.declared.Sent.{Sent}
 use Rattle.board.specs.declared.Sending.{Sending}
-use Rattle.board.specs.declared.Sending.TheVariants as sending
 use Rattle.board.specs.Board.{the_unit}
 use Rattle.board.specs.Answers.{sending_says, nothing, time}
 use Rattle.board.specs.Calls.{send, tick}
 use Rattle.desk.specs.View.{Rest, the_rest}
 use Rattle.desk.specs.Promise.{Does}
-use Rattle.desk.specs.Promise as desk
 use Rattle.wheel.specs.declared.Wheel.{Wheel}
 
 -- The mark becomes the unit that was sent to; with "nothing" it stays.
-unfoldable pub mark_after : Sending → (mark : ℕ) → ℕ
-mark_after (sending.Sent t u cdb looked) mark = u.0
-mark_after (sending.Nothing looked) mark = mark
+abbrev pub mark_after : Option Sent → (mark : ℕ) → ℕ
+mark_after (Some s) mark = s.unit.0
+mark_after None mark = mark
 
 -- what the board has of the wheel: its clock and its mark, beside the last ticket given
 abbrev pub rest_of : Wheel → (given : ℕ) → Rest
 rest_of w given = the_rest w.clock (the_unit w.mark) given
-
--- from the words m to m', a send from this clock and this mark, with this answer
-abbrev pub SendsFrom : (m m' : List ℕ) (clock mark : ℕ) (a : Sending) → Type 0
-SendsFrom m m' clock mark a = desk.Sends m m' clock (the_unit mark) (the_unit (mark_after a mark)) (sending_says a)
 
 -- A tick, from the words m and the wheel w to m' and w', with this answer. Of EVERY memory: the clock is the answer, which is the next
 -- second, and the mark is as it was. And what the desk promises of a tick, whatever the last ticket given.
@@ -35,6 +30,6 @@ pub record Ticks (m m' : List ℕ) (w w' : Wheel) (r : ℕ) : Type 0 where
 -- word is as it was. And what the desk promises of a send, whatever the last ticket given.
 pub record Sends (m m' : List ℕ) (w w' : Wheel) (a : Sending) : Type 0 where
   pub clock : w'.clock ≡ w.clock
-  pub mark : w'.mark ≡ mark_after a w.mark
+  pub mark : w'.mark ≡ mark_after a.sent w.mark
   pub idle : (n : ℕ) → sending_says a ≡ nothing n → m' ≡ m
   pub does : (given : ℕ) → Does m m' (rest_of w given) (rest_of w' given) send (sending_says a) []

@@ -11,5 +11,5 @@ pub returns : goal.returns
 returns c = works c.if-words-lt-WORDS.false (record {
   answer = c.freeze.result;
   formed = c.as_frozen.ensures;
-  keeps = freezes_numbered _ _ _ _ _ c.unit_numbered.ensures (freeze_numbered _ _ c.unit_numbered.ensures) c.freeze.ensures;
+  keeps = freezes_numbered _ _ _ _ _ c.from.ensures (freeze_numbered _ _ c.from.ensures) c.freeze.ensures;
 })

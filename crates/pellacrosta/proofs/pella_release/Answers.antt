@@ -11,5 +11,5 @@ pub returns : goal.returns
 returns c = works c.if-words-lt-WORDS.false (record {
   answer = c.release.result;
   formed = c.as_frozen.ensures;
-  keeps = freezes_numbered _ _ _ _ _ c.unit_numbered.ensures (release_numbered _ _ c.unit_numbered.ensures) c.release.ensures;
+  keeps = freezes_numbered _ _ _ _ _ c.from.ensures (release_numbered _ _ c.from.ensures) c.release.ensures;
 })
