@@ -1,3 +1,3 @@
 -- What the functions' proofs share.
-pub mod Passed
-pub mod Signed
+pub mod Passing
+pub mod Numbers

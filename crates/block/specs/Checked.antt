@@ -1,15 +1,13 @@
 -- What the checks on a block alone, 1 to 8, come to, and what the code's answers say of it. Assumes nothing.
-use Rattle.std.specs.Prelude.{Bool, List, ℕ, length, drop}
+use Rattle.std.specs.Prelude.{Bool, List, ℕ, length, drop, Result, Ok, Err}
 use Rattle.board.specs.declared.Ticket.{Ticket}
 use Rattle.board.specs.declared.Request.{Request}
 use Rattle.board.specs.Plain.{Row, first_that_applies}
 use Rattle.board.specs.Block.{fields, request}
 use Rattle.board.specs.Answers.{number}
 use Rattle.board.specs.TakingIn.{Verdict, refuse, accept, checks_of_block}
-use Rattle.block.specs.declared.Examined.{Examined}
-use Rattle.block.specs.declared.Examined.TheVariants.{Refused, Passed}
-use Rattle.block.specs.declared.Table.{Table}
-use Rattle.block.specs.declared.Table.TheVariants.{Refuse, Accept}
+use Rattle.board.specs.declared.Refusal.{Refusal}
+use Rattle.block.specs.declared.Passed.{Passed}
 
 -- a refusal by its number; or the request that the block asks for, and whether it goes to the front
 pub data Outcome : Type 0 where
@@ -34,10 +32,10 @@ checks_from_4 s = drop 3 (checks_of_block (length s) (fields s))
 
 -- ---- what the code's answers say
 
-abbrev pub examined_says : Examined → Outcome
-examined_says (Refused r) = refused (number r)
-examined_says (Passed q front) = passed q front
+abbrev pub examined_says : Result Passed Refusal → Outcome
+examined_says (Err why) = refused (number why)
+examined_says (Ok x) = passed x.request x.front
 
-abbrev pub table_says : Table → Verdict
-table_says (Refuse r) = refuse (number r)
-table_says Accept = accept
+abbrev pub table_says : Result Unit Refusal → Verdict
+table_says (Err why) = refuse (number why)
+table_says (Ok x) = accept

@@ -2,12 +2,11 @@
 // any number of bytes; none past them is read or written.
 #![tactic(auto)]
 
-ghost use Rattle.std.specs.Prelude.{◌≡◌, ◌+◌, ◌<◌, ◌≤◌, ◌/◌, ◌%◌, length, if◌then◌else◌};
-ghost use Rattle.board.specs.Plain.{◌=?◌, first_that_applies};
+ghost use Rattle.std.specs.Prelude.{◌≡◌, ◌+◌, ◌≤◌, true, false, length, MatchResult};
+ghost use Rattle.board.specs.Plain.{first_that_applies};
 ghost use Rattle.board.specs.Block.{byte, two, four, word, signed, whole_block, fields, request, with_status, with_told};
-ghost use Rattle.board.specs.Answers.{number};
-ghost use Rattle.board.specs.TakingIn.{refuse, accept};
-ghost use Rattle.block.specs.Checked.{outcome_of, examined, checks_from_4, examined_says, table_says};
+ghost use Rattle.board.specs.TakingIn.{accept};
+ghost use Rattle.block.specs.Checked.{examined, checks_from_4, examined_says, table_says};
 ghost use Rattle.block.specs.HandedOver.{HandedOver};
 
 use board::{Cdb, Finished, Refusal, Request, Ticket, Told, Unit};
@@ -17,19 +16,12 @@ const WHOLE_BLOCK: usize = 88;
 
 // ---- numbers in a block
 
-// A byte as a wider number.
-fn wide(x: u8) -> u32
-    ensures { (result ≡ x) × (result < 256) }
-{
-    x as u32
-}
-
 // The two bytes from i on.
-fn two_bytes(block: &[u8], i: usize) -> u32
+fn two_bytes(block: &[u8], i: usize) -> u16
     requires { i + 2 ≤ length block.now }
-    ensures { (result ≡ two i block.now) × (result < 65536) }
+    ensures { result ≡ two i block.now }
 {
-    wide(block[i]) + 256 * wide(block[i + 1])
+    u16::from_le_bytes([block[i], block[i + 1]])
 }
 
 // The four bytes from i on.
@@ -37,59 +29,36 @@ fn four_bytes(block: &[u8], i: usize) -> u32
     requires { i + 4 ≤ length block.now }
     ensures { result ≡ four i block.now }
 {
-    two_bytes(block, i) + 65536 * two_bytes(block, i + 2)
+    u32::from_le_bytes([block[i], block[i + 1], block[i + 2], block[i + 3]])
 }
 
-// The flag of this value (1, 2, 4 and so on) in x is set.
-fn flag_in(x: u8, value: u8) -> bool
-    requires { 0 < value }
-    ensures { result ≡ (x / value % 2 =? 1) }
-{
-    x / value % 2 == 1
-}
-
-// A number in two's complement of 32 bits. (-1 - r fits where -r may not.)
+// A number in two's complement of 32 bits.
+#[tactic(auto, using(crate::proofs::Numbers::word_is))]
 pub fn word_of(r: i32) -> u32
     ensures { result ≡ word r }
 {
-    if r < 0 {
-        let below = (-1 - r) as u32;
-        return 0xFFFFFFFF - below;
-    }
-    r as u32
+    r.cast_unsigned()
 }
 
 // The number that such a word stands for.
+#[tactic(auto, using(crate::proofs::Numbers::signed_is))]
 pub fn signed_of(x: u32) -> i32
     ensures { result ≡ signed x }
 {
-    if x < 0x80000000 {
-        return x as i32;
-    }
-    -1 - (0xFFFFFFFF - x) as i32
+    x.cast_signed()
 }
 
 // ---- the checks
 
-// What a table of checks says: the refusal of the first that applies, or to accept.
-#[derive(Clone, Copy)]
-enum Table {
-    Refuse(Refusal),
-    Accept,
-}
-
-// One check, and the table below it.
-fn check(applies: bool, why: Refusal, below: Table) -> Table
-    ensures { table_says result ≡ (if applies then refuse (number why) else table_says below) }
+// One check: the refusal where it applies.
+fn check(applies: bool, why: Refusal) -> Result<(), Refusal>
+    ensures { MatchResult result (λ _. applies ≡ false) (λ e. (applies ≡ true) × (e ≡ why)) }
 {
-    if applies {
-        return Table::Refuse(why);
-    }
-    below
+    if applies { Err(why) } else { Ok(()) }
 }
 
-// Checks 4 to 8, put together from the last one up.
-fn checks_from_4(block: &[u8]) -> Table
+// Checks 4 to 8.
+fn checks_from_4(block: &[u8]) -> Result<(), Refusal>
     requires { whole_block ≤ length block.now }
     ensures { table_says result ≡ first_that_applies (checks_from_4 block.now) accept }
 {
@@ -99,24 +68,19 @@ fn checks_from_4(block: &[u8]) -> Table
     let flags = block[12];
     let cdb_length = block[45];
     let data_length = four_bytes(block, 36);
-    let scatter_gather = flag_in(flags, 0x10);
-    let tag_queue_action = flag_in(flags, 0x02);
-    let linked = flag_in(flags, 0x04);
-    let pointer = flag_in(flags, 0x01);
+    let scatter_gather = flags & 0x10 != 0;
+    let tag_queue_action = flags & 0x02 != 0;
+    let linked = flags & 0x04 != 0;
+    let pointer = flags & 0x01 != 0;
     let unprovided = scatter_gather | tag_queue_action | linked | pointer;
-    let from_8 = check(
-        0xFFFFFF < data_length,
-        Refusal::CannotProvide,
-        Table::Accept,
-    );
-    let from_7 = check(
+    check(path != 0, Refusal::InvalidPath)?;
+    check((6 < target) | (7 < lun), Refusal::InvalidRequest)?;
+    check(unprovided, Refusal::CannotProvide)?;
+    check(
         (cdb_length == 0) | (12 < cdb_length),
         Refusal::InvalidRequest,
-        from_8,
-    );
-    let from_6 = check(unprovided, Refusal::CannotProvide, from_7);
-    let from_5 = check((6 < target) | (7 < lun), Refusal::InvalidRequest, from_6);
-    check(path != 0, Refusal::InvalidPath, from_5)
+    )?;
+    check(0xFFFFFF < data_length, Refusal::CannotProvide)
 }
 
 // The 12 CDB bytes.
@@ -124,13 +88,10 @@ fn cdb_of(block: &[u8]) -> Cdb
     requires { 72 ≤ length block.now }
     ensures { result ≡ (fields block.now).cdb }
 {
-    let first = four_bytes(block, 60);
-    let second = four_bytes(block, 64);
-    let third = four_bytes(block, 68);
     Cdb {
-        first,
-        second,
-        third,
+        first: four_bytes(block, 60),
+        second: four_bytes(block, 64),
+        third: four_bytes(block, 68),
     }
 }
 
@@ -148,8 +109,8 @@ fn request_of(block: &[u8], ticket: Ticket) -> Request
     let length = four_bytes(block, 36);
     let timeout = four_bytes(block, 72);
     let cdb = cdb_of(block);
-    let callback_disabled = flag_in(flags, 0x08);
-    let autosense_disabled = flag_in(flags, 0x20);
+    let callback_disabled = flags & 0x08 != 0;
+    let autosense_disabled = flags & 0x20 != 0;
     let unit = Unit(target * 8 + lun);
     Request {
         ticket,
@@ -165,46 +126,27 @@ fn request_of(block: &[u8], ticket: Ticket) -> Request
     }
 }
 
-// What the checks on the block alone make of it: the refusal of the first that applies, or the request that it asks for
-// and whether that goes to the front.
+// What a block asks for that passes the checks on it alone: the request, and whether it goes to the front.
 #[derive(Clone, Copy)]
-pub enum Examined {
-    Refused(Refusal),
-    Passed { request: Request, front: bool },
-}
-
-// Checks 4 to 8, and the request.
-fn examine_whole(block: &[u8], ticket: Ticket) -> Examined
-    requires { whole_block ≤ length block.now }
-    ensures { examined_says result ≡ outcome_of ticket block.now (first_that_applies (checks_from_4 block.now) accept) }
-{
-    match checks_from_4(block) {
-        Table::Refuse(why) => Examined::Refused(why),
-        Table::Accept => {
-            let request = request_of(block, ticket);
-            let front = flag_in(block[13], 0x10);
-            Examined::Passed { request, front }
-        }
-    }
+pub struct Passed {
+    pub request: Request,
+    pub front: bool,
 }
 
 // Checks 1 to 8, each only where the bytes that it looks at are lent.
-pub fn examine(block: &[u8], ticket: Ticket) -> Examined
+pub fn examine(block: &[u8], ticket: Ticket) -> Result<Passed, Refusal>
     ensures { examined_says result ≡ examined ticket block.now }
 {
     let lent = block.len();
-    if lent < 8 {
-        return Examined::Refused(Refusal::LengthInadequate);
-    }
-    let function_code = block[6];
-    if function_code != 0x01 {
-        return Examined::Refused(Refusal::InvalidRequest);
-    }
-    let length = two_bytes(block, 4) as usize;
-    if (length < WHOLE_BLOCK) | (lent < length) {
-        return Examined::Refused(Refusal::LengthInadequate);
-    }
-    examine_whole(block, ticket)
+    check(lent < 8, Refusal::LengthInadequate)?;
+    check(block[6] != 0x01, Refusal::InvalidRequest)?;
+    let length = usize::from(two_bytes(block, 4));
+    let inadequate = (length < WHOLE_BLOCK) | (lent < length);
+    check(inadequate, Refusal::LengthInadequate)?;
+    checks_from_4(block)?;
+    let request = request_of(block, ticket);
+    let front = block[13] & 0x10 != 0;
+    Ok(Passed { request, front })
 }
 
 // ---- what is written
@@ -224,30 +166,24 @@ fn tell(block: &mut [u8], told: Told)
     requires { whole_block ≤ length block.old }
     ensures { block.new ≡ with_told told block.old }
 {
-    let residual = told.residual;
-    let n = word_of(residual);
     block[7] = told.status;
     block[52] = told.scsi;
     block[53] = told.unsensed;
-    block[56] = (n % 256) as u8;
-    block[57] = (n / 256 % 256) as u8;
-    block[58] = (n / 65536 % 256) as u8;
-    block[59] = (n / 16777216 % 256) as u8;
+    block[56..60].copy_from_slice(&told.residual.to_le_bytes());
 }
 
 // A finished request's block is told what is to be told; a block that is not its own is left as it was. Whether it is
-// its own: a whole block with the request's address in bytes 0 to 3.
+// its own: a whole block with the request's address in bytes 0 to 3. (A bool: the desk's one refusal here would be no plainer
+// by an error type of this crate and its From.)
 pub fn hand_over(block: &mut [u8], x: Finished) -> bool
     ensures { HandedOver result block.new block.old x }
 {
     if block.len() < WHOLE_BLOCK {
         return false;
     }
-    let address = x.request.address;
-    if four_bytes(block, 0) != address {
+    if four_bytes(block, 0) != x.request.address {
         return false;
     }
-    let told = x.told;
-    tell(block, told);
+    tell(block, x.told);
     true
 }

@@ -11,16 +11,16 @@ pub returns-then-block-lt-WHOLE_BLOCK : goal.returns-then-block-lt-WHOLE_BLOCK
 unfolding not_its_block
 returns-then-block-lt-WHOLE_BLOCK c = let h = lt-ltb _ _ (let h : length c.args.block.now < whole_block = omega arith in h) in record { says = rw h; bytes = rw h }
 
-pub returns-then-four_bytes-address : goal.returns-then-four_bytes-address
+pub returns-then-four_bytes-x : goal.returns-then-four_bytes-x
 unfolding not_its_block
-returns-then-four_bytes-address c = let h = le-ltb _ _ (let h : whole_block ≤ length c.args.block.now = omega arith in h) in
-    let a = ne_eqb _ _ c.if-four_bytes-address.true in
+returns-then-four_bytes-x c = let h = le-ltb _ _ (let h : whole_block ≤ length c.args.block.now = omega arith in h) in
+    let a = ne_eqb _ _ c.if-four_bytes-x.true in
     let e = c.four_bytes.ensures in
     record { says = rw (h, ← e, a); bytes = rw (h, ← e, a) }
 
 pub returns : goal.returns
 unfolding not_its_block
 returns c = let h = le-ltb _ _ (let h : whole_block ≤ length c.args.block.now = omega arith in h) in
-    let a = eq-eqb _ _ c.if-four_bytes-address.false in
+    let a = eq-eqb _ _ c.if-four_bytes-x.false in
     let e = c.four_bytes.ensures in
     record { says = rw (h, ← e, a); bytes = rw (h, ← e, a) c.tell.ensures }
