@@ -1,12 +1,13 @@
 -- An event on a ticket, on the words. Assumes nothing.
 use Rattle.std.proofs.Common.{◌≡◌, ℕ, Bool, not, ◌||◌, List, [], ◌++◌, map, sym, refl, ap, ◌∙◌, subst, arith}
-use Rattle.std.specs.Prelude.{Some, None, Result, Ok, Err}
+use Rattle.std.specs.Prelude.{Some, None, Result, Ok, Err, IsErrAnd}
 use Rattle.board.specs.declared.Ticket.{Ticket}
 use Rattle.board.specs.declared.Event.{Event}
 use Rattle.board.specs.declared.End.{End}
 use Rattle.board.specs.declared.Told.{Told}
 use Rattle.board.specs.declared.Implausible.{Implausible}
 use Rattle.board.specs.declared.Unreported.{Unreported}
+use Rattle.board.specs.declared.Unreported.TheVariants as unreported
 use Rattle.board.specs.Plain.{◌=?◌}
 use Rattle.board.specs.Board.{the_unit, find, without, ticket_of_active, is_frozen, Freeze, Board, with_active, with_freeze}
 use Rattle.board.specs.Answers.{refused, done, reporting_says}
@@ -64,7 +65,7 @@ module _ (m : List ℕ) (r : Rest) (t : Ticket) (q p : ℕ) (s : Sought m 2 t q 
   was_frozen : is_frozen (b.freezes (the_unit u)) ≡ not (freeze_at m u =? 0)
   was_frozen = ap is_frozen (freeze_on m r (the_unit u) (omega arith)) ∙ frozen_back (freeze_at m u)
 
-  step_found : (e : Event) (moved : ℕ) (y : Ending) → ending (active_at m p) e moved ≡ y → step b (event t e moved) ≡ reported_by b (request_at m p) y
+  step_found : (e : Event) (moved : ℕ) (y : Result End Implausible) → ending (active_at m p) e moved ≡ y → step b (event t e moved) ≡ reported_by b (request_at m p) y
   unfolding step reporting reported
   step_found e moved y z = ap (reported b e moved) found_active ∙ ap (reported_by b (request_at m p)) z
 
@@ -102,7 +103,14 @@ record EndedBack (y : Result End Implausible) (frozen : Bool) (x : Told) (b : Bo
 ended_back : (y : Result End Implausible) (frozen : Bool) (x : Told) (b : Bool) → closed y frozen ≡ Ok (record { told = x; bad = b }) → EndedBack y frozen x b
 unfolding closed
 ended_back (Err why) frozen x b z = let k : ◌≡◌ {A = ℕ} 0 1 = cc in absurd (omega arith)
-ended_back (Ok e) frozen x b z = record { end = e; same = refl; tells = cc; freezes = cc }
+ended_back (Ok e) frozen x b z =
+    let same : ◌≡◌ {A = Closed} (record { told = told e (frozen || bad e.base); bad = bad e.base }) (record { told = x; bad = b }) = cc in
+    record { end = e; same = refl; tells = sym (ap (λ (c : Closed). c.told) same); freezes = sym (ap (λ (c : Closed). c.bad) same) }
+
+-- an event that can't be, as the caller is told of it
+pub told_implausible : (m : List ℕ) (q p : ℕ) (why : Implausible) (c : Result Unit Unreported) → IsErrAnd c (λ w. w ≡ unreported.Implausible) → Reported m m q p (Err why) c
+told_implausible m q p why (Ok x) e = absurd e
+told_implausible m q p why (Err w) e = subst (λ z. Reported m m q p (Err why) (Err z)) (sym e) (refused_event refl)
 
 pub report_some : (m m' : List ℕ) (r : Rest) (t : Ticket) (q p : ℕ) (e : Event) (moved : ℕ) (c : Result Unit Unreported)
     → seek_from 32 m t.0 32 (head m 2) ≡ At (the_place q) (the_place p) → Reported m m' q p (closing_of m p e moved) c → Does m m' r r (event t e moved) (reporting_says c) []

@@ -1,5 +1,5 @@
 -- Taking a request in, on the words: the checks on the block, those on the board, a request that passes. Assumes nothing.
-use Rattle.std.specs.Prelude.{if◌then◌else◌}
+use Rattle.std.specs.Prelude.{Result, Ok, Err, IsErrAnd, if◌then◌else◌}
 use Rattle.std.proofs.Common.{◌≡◌, ℕ, suc, ◌+◌, ◌*◌, ◌<◌, ◌≤◌, Bool, true, false, ◌≢◌, List, [], ◌∷◌, ◌++◌, map, length, set, sym, refl, ap, ◌∙◌, subst, arith, length-set}
 use Rattle.board.specs.declared.Ticket.{Ticket}
 use Rattle.board.specs.declared.Unit.{Unit}
@@ -7,7 +7,8 @@ use Rattle.board.specs.declared.Request.{Request}
 use Rattle.board.specs.Plain.{◌<?◌, ◌≤?◌, Row, ◌⇒◌, first_that_applies}
 use Rattle.board.specs.Board.{the_ticket, units, places, last_ticket, Board, live, next_ticket}
 use Rattle.board.specs.Block.{byte, fields, request, with_status}
-use Rattle.board.specs.Answers.{refused, taken}
+use Rattle.board.specs.Answers.{refused, taken, number, taking_in_says}
+use Rattle.board.specs.declared.Refusal.{Refusal}
 use Rattle.board.specs.TakingIn.{Verdict, refuse, accept, address_held, checks_of_block, checks_of_board, verdict, joined, judged, taking_in}
 use Rattle.board.specs.Calls.{take_in, step}
 use Rattle.board.proofs.Choose.{neither, not_below, when_at_most, unless_at_most}
@@ -21,7 +22,7 @@ use Rattle.rows.proofs.Carry.{Out, first_out, joins, put_in, Carried, carry, rea
 use Rattle.desk.specs.Words.{freeze_at, written}
 use Rattle.desk.specs.View.{request_at, active_at, finished_at, Rest, the_rest, view, Valid}
 use Rattle.desk.specs.Promise.{Does, TakesIn}
-use Rattle.desk.specs.TakingIn.{held_to, entered}
+use Rattle.desk.specs.TakingIn.{held_to, entered, status_said}
 use Rattle.desk.proofs.Read.{SamePlace, RequestFits, same_request_at, kept_place, stores_low, written_links, written_other, written_request}
 use Rattle.desk.proofs.Views.{board_same, does, waiting_on, waiting_changed, same_freezes, request_others, active_others, finished_others}
 use Rattle.desk.proofs.Held.{held_live, none_free, one_free}
@@ -165,6 +166,12 @@ refuses m s given n e = record {
 -- checks 1 to 8: one of them applies
 pub block_refuses : (m : List ℕ) (t : Ticket) (s : List ℕ) (given n : ℕ) → examined t s ≡ checked.refused n → TakesIn m m s (with_status n s) given given (refused n)
 block_refuses m t s given n e = refuses m s given n (λ clock mark v. block_verdict (view m (the_rest clock mark given)) t s n e)
+
+-- as the caller is told of it
+pub told_refused : (m : List ℕ) (t : Ticket) (s : List ℕ) (given : ℕ) (why : Refusal) (r : Result Ticket Refusal) → examined t s ≡ checked.refused (number why) → IsErrAnd r (λ w. w ≡ why)
+    → TakesIn m m s (with_status (status_said r) s) given given (taking_in_says r)
+told_refused m t s given why (Ok x) e i = absurd i
+told_refused m t s given why (Err w) e i = subst (λ z. TakesIn m m s (with_status (number z) s) given given (refused (number z))) (sym i) (block_refuses m t s given (number why) e)
 
 module _ (m : List ℕ) (t : Ticket) (s : List ℕ) (q : Request) (front : Bool) (given : ℕ) (p : Passes t s q front) where
   -- the checks on the board, as the words tell their tests

@@ -5,15 +5,15 @@ use Rattle.desk.proofs.Sends.{send_none, send_some, found_unit}
 use Rattle.desk.proofs.send.Goals as goal
 
 pub launch-q-requires : goal.launch-q-requires
-launch-q-requires c = let f = found_unit c.args.mem.now c.args.mark c.in-Found.unit c.in-Found.looked (sym c.rotate-found.ensures ∙ c.in-Found.is) in
+launch-q-requires c = let f = found_unit c.args.mem.now c.args.mark c.in-Some.field-0.unit c.in-Some.field-0.looked (sym c.rotate.ensures ∙ c.in-Some.is) in
     rw c.wide8.ensures (f.0, f.1)
 
-pub returns-in-Nobody : goal.returns-in-Nobody
-returns-in-Nobody c = record {
-  does = λ given. send_none c.args.mem.now (the_rest c.args.clock c.args.mark given) (omega (arith, c.length_of.ensures)) (sym c.rotate-found.ensures ∙ c.in-Nobody.is);
+pub returns-in-None : goal.returns-in-None
+returns-in-None c = record {
+  does = λ given. send_none c.args.mem.now (the_rest c.args.clock c.args.mark given) (omega (arith, c.length_of.ensures)) (sym c.rotate.ensures ∙ c.in-None.is);
   idle = λ n e. refl;
 }
 
-pub returns-in-Found : goal.returns-in-Found
-returns-in-Found c = rw (c.launch-q.ensures.0, c.launch-q.ensures.1, c.wide8.ensures)
-    (record { does = λ given. send_some c.args.mem.now (the_rest c.args.clock c.args.mark given) c.in-Found.unit c.in-Found.looked (omega (arith, c.length_of.ensures)) (sym c.rotate-found.ensures ∙ c.in-Found.is); idle = λ n e. let y : ◌≡◌ {A = ℕ} 0 1 = cc in absurd (omega arith) })
+pub returns-in-Some : goal.returns-in-Some
+returns-in-Some c = rw (c.launch-q.ensures.0, c.launch-q.ensures.1, c.wide8.ensures)
+    (record { does = λ given. send_some c.args.mem.now (the_rest c.args.clock c.args.mark given) c.in-Some.field-0.unit c.in-Some.field-0.looked (omega (arith, c.length_of.ensures)) (sym c.rotate.ensures ∙ c.in-Some.is); idle = λ n e. let y : ◌≡◌ {A = ℕ} 0 1 = cc in absurd (omega arith) })
