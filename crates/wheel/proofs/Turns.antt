@@ -16,7 +16,7 @@ use Rattle.desk.specs.View.{Rest, the_rest, view, Valid}
 use Rattle.desk.specs.Promise.{Does}
 use Rattle.desk.specs.Promise as desk
 use Rattle.wheel.specs.declared.Wheel.{Wheel}
-use Rattle.wheel.specs.Turned.{mark_after, rest_of, Ticks, Sends}
+use Rattle.wheel.specs.Turned.{mark_after, Ticks, Sends}
 
 -- ---- the mark that `step` leaves is the one that the answer tells
 
