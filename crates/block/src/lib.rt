@@ -58,6 +58,7 @@ fn check(applies: bool, why: Refusal) -> Result<(), Refusal>
 }
 
 // Checks 4 to 8.
+#[tactic(auto, using(crate::proofs::Numbers::refused_flags), unfolding(crate::specs::Checked::checks_from_4, board::specs::Plain::first_that_applies, board::specs::Block::fields, board::specs::TakingIn::wrong_cdb_length, board::specs::TakingIn::checks_of_block))]
 fn checks_from_4(block: &[u8]) -> Result<(), Refusal>
     requires { whole_block ≤ length block.now }
     ensures { table_says result ≡ first_that_applies (checks_from_4 block.now) accept }
@@ -84,6 +85,7 @@ fn checks_from_4(block: &[u8]) -> Result<(), Refusal>
 }
 
 // The 12 CDB bytes.
+#[tactic(auto, unfolding(board::specs::Block::fields))]
 fn cdb_of(block: &[u8]) -> Cdb
     requires { 72 ≤ length block.now }
     ensures { result ≡ (fields block.now).cdb }
@@ -134,6 +136,7 @@ pub struct Passed {
 }
 
 // Checks 1 to 8, each only where the bytes that it looks at are lent.
+#[tactic(auto, unfolding(crate::specs::Checked::examined, crate::specs::Checked::outcome_of, crate::specs::Checked::checks_from_4, board::specs::Plain::first_that_applies, board::specs::Block::fields, board::specs::TakingIn::checks_of_block))]
 pub fn examine(block: &[u8], ticket: Ticket) -> Result<Passed, Refusal>
     ensures { examined_says result ≡ examined ticket block.now }
 {
@@ -152,6 +155,7 @@ pub fn examine(block: &[u8], ticket: Ticket) -> Result<Passed, Refusal>
 // ---- what is written
 
 // Byte 7 becomes n, and nothing else is written; nothing at all where fewer than 8 bytes are lent.
+#[tactic(auto, unfolding(board::specs::Block::with_status))]
 pub fn write_status(block: &mut [u8], n: u8)
     ensures { block.new ≡ with_status n block.old }
 {
@@ -175,6 +179,7 @@ fn tell(block: &mut [u8], told: Told)
 // A finished request's block is told what is to be told; a block that is not its own is left as it was. Whether it is
 // its own: a whole block with the request's address in bytes 0 to 3. (A bool: the desk's one refusal here would be no plainer
 // by an error type of this crate and its From.)
+#[tactic(auto, unfolding(board::specs::Calls::not_its_block))]
 pub fn hand_over(block: &mut [u8], x: Finished) -> bool
     ensures { HandedOver result block.new block.old x }
 {
