@@ -1,5 +1,4 @@
 -- What is proved of the definitions: laws for the crates above, then what the functions' proofs use.
 pub mod Laws
-pub mod Residual
 pub mod Small
 pub mod Table

@@ -1,15 +1,15 @@
 -- The code's way through the events is the table of ends. Assumes nothing.
-use Rattle.std.specs.Prelude.{if◌then◌else◌}
+use Rattle.std.specs.Prelude.{Result, Ok, Err, if◌then◌else◌}
 use Rattle.std.proofs.Common.{◌≡◌, ℕ, ◌<◌, ◌≤◌, Bool, true, false, refl, le-ltb, lt-ltb}
 use Rattle.board.specs.Plain.{first_that_applies}
 use Rattle.board.specs.Ending.{sense_looked_at, base, refusal_102, table_of_ends, base_status, end_by_event, implausible, ending_by, ending}
-use Rattle.ends.specs.Types.{Active, Request, Event, AbortDone, SelectionTimeout, Parity, BusFree, Phase, AdapterError, Complete, Ended, Refused}
+use Rattle.ends.specs.Types.{Active, Request, Event, AbortDone, SelectionTimeout, Parity, BusFree, Phase, AdapterError, Complete, End, Implausible}
 use Rattle.ends.specs.Model.{plainly, abort_done, completely, by_event}
 
 -- a base status by two tests, then the end; or the end by two tests
 by_marks : (asked overdue : Bool) (q : Request) (e : Event) (moved m n : ℕ)
     → ending_by q e moved (if asked then base m else if overdue then base n else refusal_102)
-    ≡ (if asked then Ended (end_by_event m q e moved) else if overdue then Ended (end_by_event n q e moved) else Refused)
+    ≡ (if asked then Ok (end_by_event m q e moved) else if overdue then Ok (end_by_event n q e moved) else Err (record {}))
 unfolding ending_by
 by_marks true overdue q e moved m n = refl
 by_marks false true q e moved m n = refl
@@ -20,7 +20,7 @@ one_row : (test : Bool) (m n : ℕ) → (if test then base m else base n) ≡ ba
 one_row true m n = refl
 one_row false m n = refl
 
-pub too_many : (a : Active) (e : Event) (moved : ℕ) → 0x7FFFFFFF < moved → Refused ≡ ending a e moved
+pub too_many : (a : Active) (e : Event) (moved : ℕ) → 0x7FFFFFFF < moved → Err (record {}) ≡ ending a e moved
 unfolding ending implausible
 too_many a e moved h = rw (lt-ltb _ _ h)
 

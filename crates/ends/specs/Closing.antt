@@ -1,9 +1,8 @@
 -- What an event makes of an active request, for the caller of `close`. Assumes nothing.
-use Rattle.std.specs.Prelude.{ℕ, ◌%◌, Bool, not, ◌||◌}
-use Rattle.ends.specs.Types.{Request, Active, Ending, Ended, Refused, Closing}
+use Rattle.std.specs.Prelude.{ℕ, ◌%◌, Bool, not, ◌||◌, Result, Ok, Err}
+use Rattle.ends.specs.Types.{Request, Active, End, Implausible, Closed}
 use Rattle.board.specs.Plain.{◌=?◌}
 use Rattle.board.specs.Ending.{told}
-use Rattle.ends.specs.declared.Closing.TheVariants as closing
 
 -- The data length as 24 bits, which a request that was taken in has anyway: so the residual fits whatever was passed.
 unfoldable pub capped_request : Request → Request
@@ -16,7 +15,7 @@ capped a = record { request = capped_request a.request; start = a.start; asked =
 abbrev pub bad : (status : ℕ) → Bool
 bad n = not (n =? 0x01)
 
--- what a block is told of an ending, its unit frozen before or not, and whether the end freezes the unit
-unfoldable pub closed : Ending → (frozen : Bool) → Closing
-closed Refused frozen = closing.Refused
-closed (Ended e) frozen = closing.Closed (told e (frozen || bad e.base)) (bad e.base)
+-- what a block is told of an end, its unit frozen before or not, and whether the end freezes the unit
+unfoldable pub closed : Result End Implausible → (frozen : Bool) → Result Closed Implausible
+closed (Ok e) frozen = Ok (record { told = told e (frozen || bad e.base); bad = bad e.base })
+closed (Err why) frozen = Err why

@@ -1,54 +1,23 @@
 // How a request ends: what an event makes of an active request, the ends without an event, and when a request is late.
 #![tactic(auto)]
 
-ghost use Rattle.std.specs.Prelude.{◌≡◌, ◌-◌, ◌%◌, ◌<◌, ◌≤◌, true, pos, ◌-ℤ◌, if◌then◌else◌};
+ghost use Rattle.std.specs.Prelude.{◌≡◌, ◌%◌, ◌<◌, ◌≤◌, true, pos, ◌-ℤ◌, MatchResult, if◌then◌else◌};
 ghost use Rattle.board.specs.Plain.{◌=?◌};
-ghost use Rattle.board.specs.Ending.{bytes_of, end_unmoved, ending, status_byte, told};
-ghost use Rattle.board.specs.Calls.{seconds_since, late};
+ghost use Rattle.board.specs.Ending.{bytes_of, end_unmoved, ending, told};
+ghost use Rattle.board.specs.Calls.{late};
 ghost use Rattle.ends.specs.Closing.{capped_request, capped, closed};
 ghost use Rattle.ends.specs.Model.{Countable, plainly, overdue_or, abort_done, completely, by_event};
 
-use board::{Active, End, Ending, Event, Request, Sense, Told};
+use board::{Active, End, Event, Implausible, Request, Sense, Told};
 
-// What an event makes of an active request: refusal 102; or what its block will be told, and whether the end freezes its
-// unit.
+// What an event that can be makes of an active request: what its block will be told, and whether the end freezes its unit.
 #[derive(Clone, Copy)]
-pub enum Closing {
-    Refused,
-    Closed { told: Told, bad: bool },
+pub struct Closed {
+    pub told: Told,
+    pub bad: bool,
 }
 
-// ---- small choices
-
-// One of two numbers, by a test.
-fn pick(test: bool, yes: u8, no: u8) -> u8
-    ensures { result ≡ (if test then yes else no) }
-{
-    if test {
-        return yes;
-    }
-    no
-}
-
-// The value if the flag is on, else 0.
-fn flag(on: bool, value: u8) -> u8
-    ensures { (result ≡ (if on then value else 0)) × (result ≤ value) }
-{
-    if on {
-        return value;
-    }
-    0
-}
-
-// What is left of a when b is taken away.
-fn less(a: u8, b: u8) -> u8
-    ensures { result ≡ a - b }
-{
-    if a <= b {
-        return 0;
-    }
-    a - b
-}
+// ---- what is reported
 
 // The sense bytes that came.
 fn bytes_of(sense: Sense) -> u8
@@ -56,12 +25,9 @@ fn bytes_of(sense: Sense) -> u8
 {
     match sense {
         Sense::Bytes(n) => n,
-        Sense::Failed => 0,
-        Sense::None => 0,
+        Sense::Failed | Sense::None => 0,
     }
 }
-
-// ---- the data length
 
 // 24 bits of a data length, which a request that was taken in has anyway.
 fn capped_length(length: u32) -> u32
@@ -71,139 +37,157 @@ fn capped_length(length: u32) -> u32
 }
 
 // The active request with its data length so capped.
+#[tactic(auto, unfolding(crate::specs::Closing::capped, crate::specs::Closing::capped_request))]
 fn capped(a: Active) -> Active
     ensures { (result ≡ capped a) × (result.request.length < 0x1000000) }
 {
-    let length = a.request.length;
-    let mut q = a.request;
-    q.length = capped_length(length);
-    let mut next = a;
-    next.request = q;
-    next
+    let length = capped_length(a.request.length);
+    let request = Request {
+        length,
+        ..a.request
+    };
+    Active { request, ..a }
 }
 
-// Data length minus bytes moved; below zero where more were moved.
-fn residual_of(length: u32, moved: u32) -> i32
-    requires { Countable length moved }
-    ensures { result ≡ pos length -ℤ pos moved }
-{
-    length as i32 - moved as i32
+// An active request and the bytes moved, such that the residual fits.
+#[derive(Clone, Copy)]
+struct Report {
+    active: Active,
+    moved: u32,
+    ghost countable: { Countable active.request.length moved },
 }
 
-// ---- the table of ends
-
-// An end by an event other than "complete".
-fn plain_end(a: Active, moved: u32, base: u8) -> Ending
-    requires { Countable a.request.length moved }
-    ensures { result ≡ plainly a moved base }
-{
-    let residual = residual_of(a.request.length, moved);
-    Ending::Ended(End {
-        base,
-        scsi: 0,
-        sensed: false,
-        unsensed: 0,
-        residual,
-    })
-}
-
-// The same, where an overdue request has base status 0Bh.
-fn own_end(a: Active, moved: u32, base: u8) -> Ending
-    requires { Countable a.request.length moved }
-    ensures { result ≡ plainly a moved (overdue_or a base) }
-{
-    plain_end(a, moved, pick(a.overdue, 0x0B, base))
-}
-
-// "Abort done": 02h where the host asked, 0Bh where overdue, else refused.
-fn abort_end(a: Active, moved: u32) -> Ending
-    requires { Countable a.request.length moved }
-    ensures { result ≡ abort_done a moved }
-{
-    if a.asked {
-        return plain_end(a, moved, 0x02);
+impl Report {
+    // More than 7FFFFFFFh bytes can't be.
+    fn new(a: Active, moved: u32) -> Result<Report, Implausible>
+        ensures { MatchResult result (λ r. (r.active ≡ capped a) × (r.moved ≡ moved) × (moved ≤ 0x7FFFFFFF)) (λ _. 0x7FFFFFFF < moved) }
+    {
+        if 0x7FFFFFFF < moved {
+            return Err(Implausible);
+        }
+        let active = capped(a);
+        Ok(Report { active, moved })
     }
-    if a.overdue {
-        return plain_end(a, moved, 0x0B);
-    }
-    Ending::Refused
-}
 
-// "Complete".
-fn complete_end(a: Active, moved: u32, scsi: u8, sense: Sense) -> Ending
-    requires { Countable a.request.length moved }
-    ensures { result ≡ completely a moved scsi sense }
-{
-    let asked = a.request.sense;
-    let looked = (scsi == 0x02) & a.request.autosense & (1 <= asked);
-    let came = bytes_of(sense);
-    if looked & (asked < came) {
-        return Ending::Refused;
+    // Data length minus bytes moved; below zero where more were moved.
+    fn residual(self) -> i32
+        ensures { result ≡ pos self.active.request.length -ℤ pos self.moved }
+    {
+        self.active.request.length as i32 - self.moved as i32
     }
-    let well = pick((scsi == 0x00) | (scsi == 0x04), 0x01, 0x04);
-    let sensed = pick(looked & (came == 0), 0x10, well);
-    let length = a.request.length;
-    let over = pick(length < moved, 0x12, sensed);
-    let base = pick(a.overdue, 0x0B, over);
-    let left = less(asked, came);
-    let unsensed = pick(looked, left, 0);
-    let residual = residual_of(length, moved);
-    Ending::Ended(End {
-        base,
-        scsi,
-        sensed: looked & (1 <= came),
-        unsensed,
-        residual,
-    })
-}
 
-// The table, by the event.
-fn by_event(a: Active, moved: u32, event: Event) -> Ending
-    requires { Countable a.request.length moved }
-    ensures { result ≡ by_event a moved event }
-{
-    match event {
-        Event::AbortDone => abort_end(a, moved),
-        Event::SelectionTimeout => own_end(a, moved, 0x0A),
-        Event::Parity => own_end(a, moved, 0x0F),
-        Event::BusFree => own_end(a, moved, 0x13),
-        Event::Phase => own_end(a, moved, 0x14),
-        Event::AdapterError => own_end(a, moved, 0x19),
-        Event::Complete { status, sense } => complete_end(a, moved, status, sense),
+    // ---- the table of ends
+
+    // An end by an event other than "complete".
+    #[tactic(auto, unfolding(crate::specs::Model::plainly))]
+    fn plain_end(self, base: u8) -> End
+        ensures { result ≡ plainly self.active self.moved base }
+    {
+        End {
+            base,
+            scsi: 0,
+            sensed: false,
+            unsensed: 0,
+            residual: self.residual(),
+        }
+    }
+
+    // The same, where an overdue request has base status 0Bh.
+    fn own_end(self, base: u8) -> End
+        ensures { result ≡ plainly self.active self.moved (overdue_or self.active base) }
+    {
+        self.plain_end(if self.active.overdue { 0x0B } else { base })
+    }
+
+    // "Abort done": 02h where the host asked, 0Bh where overdue, else refused.
+    #[tactic(auto, unfolding(crate::specs::Model::abort_done, crate::specs::Model::plainly))]
+    fn abort_end(self) -> Result<End, Implausible>
+        ensures { result ≡ abort_done self.active self.moved }
+    {
+        if self.active.asked {
+            Ok(self.plain_end(0x02))
+        } else if self.active.overdue {
+            Ok(self.plain_end(0x0B))
+        } else {
+            Err(Implausible)
+        }
+    }
+
+    // "Complete".
+    #[tactic(auto, unfolding(crate::specs::Model::completely))]
+    fn complete_end(self, scsi: u8, sense: Sense) -> Result<End, Implausible>
+        ensures { result ≡ completely self.active self.moved scsi sense }
+    {
+        let request = self.active.request;
+        let looked = (scsi == 0x02) & request.autosense & (1 <= request.sense);
+        let came = bytes_of(sense);
+        if looked & (request.sense < came) {
+            return Err(Implausible);
+        }
+        let base = if self.active.overdue {
+            0x0B
+        } else if request.length < self.moved {
+            0x12
+        } else if looked & (came == 0) {
+            0x10
+        } else if (scsi == 0x00) | (scsi == 0x04) {
+            0x01
+        } else {
+            0x04
+        };
+        let unsensed = if looked {
+            request.sense.saturating_sub(came)
+        } else {
+            0
+        };
+        Ok(End {
+            base,
+            scsi,
+            sensed: looked & (1 <= came),
+            unsensed,
+            residual: self.residual(),
+        })
+    }
+
+    // The table, by the event.
+    #[tactic(auto, unfolding(crate::specs::Model::by_event))]
+    fn end_by(self, event: Event) -> Result<End, Implausible>
+        ensures { result ≡ by_event self.active self.moved event }
+    {
+        match event {
+            Event::AbortDone => self.abort_end(),
+            Event::SelectionTimeout => Ok(self.own_end(0x0A)),
+            Event::Parity => Ok(self.own_end(0x0F)),
+            Event::BusFree => Ok(self.own_end(0x13)),
+            Event::Phase => Ok(self.own_end(0x14)),
+            Event::AdapterError => Ok(self.own_end(0x19)),
+            Event::Complete { status, sense } => self.complete_end(status, sense),
+        }
     }
 }
 
 // The end of an active request by an event, or refusal 102.
-#[tactic(auto, using(crate::proofs::Table::too_many))]
-fn end_of(a: Active, event: Event, moved: u32) -> Ending
+#[tactic(auto, using(crate::proofs::Table::too_many, crate::proofs::Table::table))]
+fn end_of(a: Active, event: Event, moved: u32) -> Result<End, Implausible>
     ensures { result ≡ ending (capped a) event moved }
 {
-    if 0x7FFFFFFF < moved {
-        return Ending::Refused;
-    }
-    by_event(capped(a), moved, event)
+    let report = Report::new(a, moved)?;
+    report.end_by(event)
 }
 
 // ---- what a block is told
 
-// Base, +80h if sense was looked at and at least 1 byte came, +40h if the unit is frozen after this end.
-fn status_of(base: u8, sensed: bool, frozen: bool) -> u8
-    requires { base < 64 }
-    ensures { result ≡ status_byte base sensed frozen }
-{
-    base + flag(sensed, 0x80) + flag(frozen, 0x40)
-}
-
-// What a block is told of an end after which its unit is frozen, or not.
+// What a block is told of an end after which its unit is frozen, or not: base, +80h if sense was looked at and at least 1
+// byte came, +40h if the unit is frozen.
+#[tactic(auto, unfolding(board::specs::Ending::told))]
 fn told_of(e: End, frozen: bool) -> Told
     requires { e.base < 64 }
     ensures { result ≡ told e frozen }
 {
-    let base = e.base;
-    let sensed = e.sensed;
-    let status = status_of(base, sensed, frozen);
+    let sensed_bit = if e.sensed { 0x80 } else { 0 };
+    let frozen_bit = if frozen { 0x40 } else { 0 };
     Told {
-        status,
+        status: e.base + sensed_bit + frozen_bit,
         scsi: e.scsi,
         unsensed: e.unsensed,
         residual: e.residual,
@@ -211,35 +195,32 @@ fn told_of(e: End, frozen: bool) -> Told
 }
 
 // What an event with these bytes moved makes of an active request whose unit was frozen before, or not.
-pub fn close(a: Active, event: Event, moved: u32, frozen: bool) -> Closing
+#[tactic(auto, using(crate::proofs::Small::small), unfolding(crate::specs::Closing::closed))]
+pub fn close(a: Active, event: Event, moved: u32, frozen: bool) -> Result<Closed, Implausible>
     ensures { result ≡ closed (ending (capped a) event moved) frozen }
 {
-    match end_of(a, event, moved) {
-        Ending::Refused => Closing::Refused,
-        Ending::Ended(e) => {
-            let bad = e.base != 0x01;
-            let told = told_of(e, frozen | bad);
-            Closing::Closed { told, bad }
-        }
-    }
+    let end = end_of(a, event, moved)?;
+    let bad = end.base != 0x01;
+    let told = told_of(end, frozen | bad);
+    Ok(Closed { told, bad })
 }
 
 // ---- ends without an event
 
 // What a block is told of an end without an event: nothing moved, so the residual is the whole data length.
+#[tactic(auto, unfolding(board::specs::Ending::told, board::specs::Ending::end_unmoved, crate::specs::Closing::capped_request))]
 fn unmoved(q: Request, base: u8, frozen: bool) -> Told
     requires { base < 64 }
     ensures { result ≡ told (end_unmoved base (capped_request q)) frozen }
 {
-    let length = q.length;
-    let residual = capped_length(length) as i32;
-    let status = status_of(base, false, frozen);
-    Told {
-        status,
+    let end = End {
+        base,
         scsi: 0,
+        sensed: false,
         unsensed: 0,
-        residual,
-    }
+        residual: capped_length(q.length) as i32,
+    };
+    told_of(end, frozen)
 }
 
 // Abort while waiting: 02h, and no freeze.
@@ -258,30 +239,19 @@ pub fn reset(q: Request) -> Told
 
 // ---- lateness
 
-// Seconds from start to now, modulo 2^32.
-fn seconds_since(start: u32, now: u32) -> u32
-    ensures { result ≡ seconds_since start now }
-{
-    std::num::wrapping_sub_u32(now, start)
-}
-
 // The seconds that a timeout gives: 0 means 30 (house).
 fn allowed(timeout: u32) -> u32
     ensures { result ≡ (if timeout =? 0 then 30 else timeout) }
 {
-    if timeout == 0 {
-        return 30;
-    }
-    timeout
+    if timeout == 0 { 30 } else { timeout }
 }
 
 // Its seconds since its start exceed its timeout; FFFFFFFFh never ends.
+#[tactic(auto, unfolding(board::specs::Calls::late))]
 pub fn late_at(now: u32, a: Active) -> bool
     ensures { result ≡ late now a }
 {
     let timeout = a.request.timeout;
-    let start = a.start;
-    let most = allowed(timeout);
-    let seconds = seconds_since(start, now);
-    (timeout != 0xFFFFFFFF) & (most < seconds)
+    let seconds = now.wrapping_sub(a.start);
+    (timeout != 0xFFFFFFFF) & (allowed(timeout) < seconds)
 }
