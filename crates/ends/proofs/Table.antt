@@ -1,9 +1,9 @@
 -- The code's way through the events is the table of ends. Assumes nothing.
-use Rattle.std.specs.Prelude.{Result, Ok, Err, if◌then◌else◌}
+use Rattle.std.specs.Prelude.{Ok, Err, if◌then◌else◌}
 use Rattle.std.proofs.Common.{◌≡◌, ℕ, ◌<◌, ◌≤◌, Bool, true, false, refl, le-ltb, lt-ltb}
 use Rattle.board.specs.Plain.{first_that_applies}
 use Rattle.board.specs.Ending.{sense_looked_at, base, refusal_102, table_of_ends, base_status, end_by_event, implausible, ending_by, ending}
-use Rattle.ends.specs.Types.{Active, Request, Event, AbortDone, SelectionTimeout, Parity, BusFree, Phase, AdapterError, Complete, End, Implausible}
+use Rattle.ends.specs.Types.{Active, Request, Event, AbortDone, SelectionTimeout, Parity, BusFree, Phase, AdapterError, Complete}
 use Rattle.ends.specs.Model.{plainly, abort_done, completely, by_event}
 
 -- a base status by two tests, then the end; or the end by two tests

@@ -42,7 +42,10 @@ fn capped(a: Active) -> Active
     ensures { (result ≡ capped a) × (result.request.length < 0x1000000) }
 {
     let length = capped_length(a.request.length);
-    let request = Request { length, ..a.request };
+    let request = Request {
+        length,
+        ..a.request
+    };
     Active { request, ..a }
 }
 
@@ -132,7 +135,11 @@ impl Report {
         } else {
             0x04
         };
-        let unsensed = if looked { request.sense.saturating_sub(came) } else { 0 };
+        let unsensed = if looked {
+            request.sense.saturating_sub(came)
+        } else {
+            0
+        };
         Ok(End {
             base,
             scsi,
