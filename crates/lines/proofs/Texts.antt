@@ -1,25 +1,23 @@
 -- Laws of the text of a line, each in the form in which a loop over the bytes asks for it. Assumes nothing.
-use Rattle.std.specs.Prelude.{if◌then◌else◌}
+use Rattle.std.specs.Prelude.{if◌then◌else◌, Option, Some, None, option_and_then, fold, position}
+use Rattle.std.specs.List.{position_or_len}
 use Prim.Native.Nat.{ℕ, zero, suc, ◌+◌, ◌*◌, ◌-◌, ◌/◌, ◌%◌, ◌≤◌, ◌<◌}
 use mathlib.Core.Path.{◌≡◌, refl, sym, ap, ◌∙◌, subst}
 use mathlib.Core.Bool.{Bool, true, false, ◌&&◌, ◌||◌}
-use mathlib.Core.List.{List, [], ◌∷◌, ◌++◌, append_assoc, append-nil}
+use mathlib.Core.List.{List, [], ◌∷◌, ◌++◌}
 use native.Mathlib.Omega.{arith}
 use native.Mathlib.Numerals.{add-one}
 use borrow.Author.Tests.{le-leb, lt-leb, eq-eqb, ne_eqb, eqb-true}
 use lib.ListN.{length, get_or, set, take, drop, drop_of_length-le, length-drop}
-use lib.Seq.{drop-cons, take-suc, sets}
+use lib.Seq.{drop-cons, sets}
 use lib.Dec.{eqb}
-use Rattle.lines.specs.Text.{more, number, fields, onto, Cut, is_hex, hex_value, all_hex, bytes, code}
-use Rattle.lines.specs.Record.{Record, malformed, only, kind, code_kind, sense, sense_bytes}
+use Rattle.lines.specs.Text.{more, number, fields, onto, is_hex, hex_value, all_hex, bytes, code}
+use Rattle.lines.specs.Record.{Record, malformed, only, kind, named, byte_sense, sense}
 use Rattle.board.specs.Plain.{◌≤?◌}
 use Rattle.board.proofs.Choose.{by_cases, both, at_most}
 use Rattle.board.specs.declared.Event.TheVariants.{AbortDone}
-use Rattle.lines.specs.declared.Kind.TheVariants.{Plain, Completed, NoKind}
-use Rattle.board.specs.declared.Sense.TheVariants.{Failed, None}
-use Rattle.lines.specs.declared.Sensed.TheVariants.{Says}
-use Rattle.lines.specs.declared.Code.TheVariants.{Byte, Bad}
-use Rattle.lines.specs.declared.Number.TheVariants.{Is, Not}
+use Rattle.lines.specs.declared.Kind.TheVariants.{Plain, Completed}
+use Rattle.board.specs.declared.Sense.TheVariants as sensed
 
 uncons : (s : List ℕ) (i : ℕ) → i < length s → drop i s ≡ get_or s i 0 ∷ drop (i + 1) s
 uncons s i h = rw (add-one, drop-cons s i 0)
@@ -30,7 +28,7 @@ pub more_next : (n c : ℕ) (cs : List ℕ) → 48 ≤ c → c ≤ 57 → n * 10
 unfolding more
 more_next n c cs h k l = rw (le-leb 48 c h, le-leb c 57 k, le-leb (n * 10 + (c - 48)) 4294967295 l)
 
-pub more_low : (n c : ℕ) (cs : List ℕ) → c < 48 → more n (c ∷ cs) ≡ Not
+pub more_low : (n c : ℕ) (cs : List ℕ) → c < 48 → more n (c ∷ cs) ≡ None
 unfolding more
 more_low n c cs h = rw (lt-leb 48 c h)
 
@@ -38,35 +36,35 @@ and_false : (a : Bool) → (a && false) ≡ false
 and_false true = refl
 and_false false = refl
 
-pub more_high : (n c : ℕ) (cs : List ℕ) → 57 < c → more n (c ∷ cs) ≡ Not
+pub more_high : (n c : ℕ) (cs : List ℕ) → 57 < c → more n (c ∷ cs) ≡ None
 unfolding more
 more_high n c cs h = rw (lt-leb c 57 h, and_false)
 
-pub more_big : (n c : ℕ) (cs : List ℕ) → 4294967295 < n * 10 + (c - 48) → more n (c ∷ cs) ≡ Not
+pub more_big : (n c : ℕ) (cs : List ℕ) → 4294967295 < n * 10 + (c - 48) → more n (c ∷ cs) ≡ None
 unfolding more
 more_big n c cs h = rw (lt-leb (n * 10 + (c - 48)) 4294967295 h, and_false)
 
 pub more_at : (s : List ℕ) (n i c : ℕ) → i < length s → c ≡ get_or s i 0 → more n (drop i s) ≡ more n (c ∷ drop (i + 1) s)
 more_at s n i c h e = ap (more n) (uncons s i h ∙ ap (λ (x : ℕ). x ∷ drop (i + 1) s) (sym e))
 
-pub more_end : (s : List ℕ) (n i : ℕ) → length s ≤ i → more n (drop i s) ≡ Is n
+pub more_end : (s : List ℕ) (n i : ℕ) → length s ≤ i → more n (drop i s) ≡ Some n
 unfolding more
 more_end s n i h = rw (drop_of_length-le s h)
 
 -- ---- the first digit
 
-pub number_none : (s : List ℕ) → length s ≡ 0 → Not ≡ number s
+pub number_none : (s : List ℕ) → length s ≡ 0 → None ≡ number s
 unfolding number
 number_none [] h = refl
 number_none (c ∷ s) h = absurd (omega arith)
 
-pub number_zero : (s : List ℕ) → get_or s 0 0 ≡ 48 → length s ≡ 1 → Is 0 ≡ number s
+pub number_zero : (s : List ℕ) → get_or s 0 0 ≡ 48 → length s ≡ 1 → Some 0 ≡ number s
 unfolding number more
 number_zero [] h k = absurd (omega arith)
 number_zero (c ∷ []) h k = rw h
 number_zero (c ∷ d ∷ s) h k = absurd (omega arith)
 
-pub number_lead : (s : List ℕ) → (length s ≡ 0 → ⊥) → get_or s 0 0 ≡ 48 → (length s ≡ 1 → ⊥) → Not ≡ number s
+pub number_lead : (s : List ℕ) → (length s ≡ 0 → ⊥) → get_or s 0 0 ≡ 48 → (length s ≡ 1 → ⊥) → None ≡ number s
 unfolding number
 number_lead [] z h k = absurd (z refl)
 number_lead (c ∷ []) z h k = absurd (k refl)
@@ -313,17 +311,17 @@ pub same : {A : Type 0} (b : Bool) (x : A) → (if b then x else x) ≡ x
 same true x = refl
 same false x = refl
 
-more_tab_step : (n c : ℕ) (cs : List ℕ) (b : Bool) → eqb c 9 ≡ b → ((m : ℕ) → has_tab cs ≡ true → more m cs ≡ Not) → (if b then true else has_tab cs) ≡ true → more n (c ∷ cs) ≡ Not
+more_tab_step : (n c : ℕ) (cs : List ℕ) (b : Bool) → eqb c 9 ≡ b → ((m : ℕ) → has_tab cs ≡ true → more m cs ≡ None) → (if b then true else has_tab cs) ≡ true → more n (c ∷ cs) ≡ None
 unfolding more
 more_tab_step n c cs true e ih h = rw (eqb-true c 9 e)
 more_tab_step n c cs false e ih h = rw (ih (n * 10 + (c - 48)) h, same)
 
-more_tab : (n : ℕ) (xs : List ℕ) → has_tab xs ≡ true → more n xs ≡ Not
+more_tab : (n : ℕ) (xs : List ℕ) → has_tab xs ≡ true → more n xs ≡ None
 unfolding has_tab
 more_tab n [] h = absurd (let z : ◌≡◌ {A = ℕ} 0 1 = cc in omega arith)
 more_tab n (c ∷ cs) h = more_tab_step n c cs (eqb c 9) refl (λ m. more_tab m cs) h
 
-pub number_tab : (xs : List ℕ) → has_tab xs ≡ true → number xs ≡ Not
+pub number_tab : (xs : List ℕ) → has_tab xs ≡ true → number xs ≡ None
 unfolding number
 number_tab [] h = refl
 number_tab (c ∷ []) h = more_tab 0 (c ∷ []) h
