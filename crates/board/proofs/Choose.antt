@@ -1,9 +1,8 @@
 -- Choices and tests: what a test that passed or failed tells. Assumes nothing.
-use Rattle.std.specs.Prelude.{if◌then◌else◌}
+use Rattle.std.specs.Prelude.{if◌then◌else◌, None, Some}
 use mathlib.Core.Path.{◌≡◌, refl, sym, ap, subst}
 use mathlib.Core.Logic.{◌≢◌}
 use mathlib.Core.Bool.{Bool, true, false, not, ◌||◌, ◌&&◌}
-use mathlib.Core.Option.{none, some}
 use Prim.Native.Nat.{ℕ, ◌≤◌, ◌<◌}
 use native.Mathlib.Omega.{arith}
 use lib.Dec.{T, eqb, eqb→eq, eqb_refl, T_not, ltb→lt, nltb→le, leb→le, nleb→lt}
@@ -29,7 +28,7 @@ both_ifs P false x y z w f g = g
 pub true≢false : {A : Type 0} → true ≡ false → A
 true≢false e = let z : ◌≡◌ {A = ℕ} 0 1 = cc in absurd (omega arith)
 
-pub none≢some : {A B : Type 0} {x : A} → none ≡ some x → B
+pub none≢some : {A B : Type 0} {x : A} → None ≡ Some x → B
 none≢some e = let z : ◌≡◌ {A = ℕ} 0 1 = cc in absurd (omega arith)
 
 pub is_true : {c : Bool} → c ≡ true → T c

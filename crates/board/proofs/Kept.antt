@@ -1,9 +1,8 @@
 -- What every move keeps: the live requests, weighed by anything, change by the one that came and the one that went; what waits
 -- waits on its own unit; a ticket that is given is the next one. Assumes nothing.
-use Rattle.std.specs.Prelude.{if◌then◌else◌}
+use Rattle.std.specs.Prelude.{if◌then◌else◌, Some}
 use mathlib.Core.Path.{◌≡◌, refl, sym, ◌∙◌, ap, subst}
 use mathlib.Core.Bool.{Bool, true, false}
-use mathlib.Core.Option.{some}
 use mathlib.Core.List.{List, [], ◌∷◌, ◌++◌, map}
 use Prim.Native.Nat.{ℕ, ◌+◌, ◌<◌}
 use native.Mathlib.Omega.{arith}
@@ -133,7 +132,7 @@ kept_goes b u q more n k e h =
 
 -- ---- ending
 
-kept_ends : (b : Board) (a : Active) (e : End) → find ticket_of_active (ticket_of_active a) b.active ≡ some a → Home b → Kept b done (ended_from a e b)
+kept_ends : (b : Board) (a : Active) (e : End) → find ticket_of_active (ticket_of_active a) b.active ≡ Some a → Home b → Kept b done (ended_from a e b)
 unfolding ended_active given_by handed_by
 kept_ends b a e k h =
     kept_steady b _ _
@@ -142,7 +141,7 @@ kept_ends b a e k h =
     rw (weigh_append (λ x. g x.request) b.finished) (omega arith))
     h refl refl refl
 
-kept_aborts : (b : Board) (q : Request) → q.unit.0 < units → find (λ r. r.ticket) q.ticket (b.waiting q.unit) ≡ some q → Home b → Kept b done (ended_waiting q b)
+kept_aborts : (b : Board) (q : Request) → q.unit.0 < units → find (λ r. r.ticket) q.ticket (b.waiting q.unit) ≡ Some q → Home b → Kept b done (ended_waiting q b)
 unfolding ended_waiting given_by handed_by
 kept_aborts b q u k h =
     let l : List Request = without (λ r. r.ticket) q.ticket (b.waiting q.unit) in

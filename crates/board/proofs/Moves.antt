@@ -1,8 +1,8 @@
 -- Every call makes one of ten moves on the board. What is to be shown of all calls is then shown of the ten moves, which is
 -- what the files after this one do. Assumes nothing.
+use Rattle.std.specs.Prelude.{Option, Some, None, Result, Ok, Err}
 use mathlib.Core.Path.{◌≡◌, refl, sym, subst, subst₂}
 use mathlib.Core.Bool.{Bool, true, false, cond, ◌&&◌}
-use mathlib.Core.Option.{Option, none, some}
 use mathlib.Core.List.{List, [], ◌∷◌, map}
 use Prim.Native.Nat.{ℕ, zero, suc, ◌+◌, ◌-◌, ◌%◌, ◌^◌, ◌≤◌, ◌<◌}
 use native.Mathlib.Nat.{mod-lt}
@@ -10,7 +10,7 @@ use native.Mathlib.Omega.{arith}
 use lib.Dec.{ltb, lit<}
 use lib.IntN.{pos, negsuc, ◌-ℤ◌}
 use lib.ListN.{length}
-use Rattle.board.specs.Types.{Ticket, Unit, Request, Active, Finished, Rotation, Found, Nobody, Event, End, Ending, Ended, Refused}
+use Rattle.board.specs.Types.{Ticket, Unit, Request, Active, Finished, Found, Event, End, Implausible}
 use Rattle.board.specs.Plain.{◌<?◌, ◌≤?◌, Row, ◌⇒◌, first_that_applies, Each}
 use Rattle.board.specs.Board.{units, find, without, by_ticket, ticket_of_active, data_length, sense_length, places, most_active, last_ticket, Freeze, one_freeze, one_release, freeze_number, Board, all_waiting, live, next_ticket, with_active, with_finished, with_freeze, with_clock}
 use Rattle.board.specs.Block.{whole_block, fields, request}
@@ -64,8 +64,8 @@ pub data Move (b : Board) (c : Call) : Answer → Board → Type 0 where
   stays : (a : Answer) → Idle a → Move b c a b
   joins : (q : Request) (front : Bool) → Joins b q → Move b c (taken q.ticket) (joined q front b)
   goes : (u : Unit) (q : Request) (more : List Request) (n : ℕ) → Goes b u → b.waiting u ≡ q ∷ more → Move b c (sent q.ticket u q.cdb n) (sent_from u q more b)
-  ends : (a : Active) (e : End) → find ticket_of_active (ticket_of_active a) b.active ≡ some a → (data_length a.request ≤ 0xFFFFFF → InRange e.residual) → Move b c done (ended_from a e b)
-  aborts : (q : Request) → q.unit.0 < units → find (λ r. r.ticket) q.ticket (b.waiting q.unit) ≡ some q → Move b c done (ended_waiting q b)
+  ends : (a : Active) (e : End) → find ticket_of_active (ticket_of_active a) b.active ≡ Some a → (data_length a.request ≤ 0xFFFFFF → InRange e.residual) → Move b c done (ended_from a e b)
+  aborts : (q : Request) → q.unit.0 < units → find (λ r. r.ticket) q.ticket (b.waiting q.unit) ≡ Some q → Move b c done (ended_waiting q b)
   marks : (f : Active → Active) → ((a : Active) → (f a).request ≡ a.request) → ((a : Active) → (f a).start ≡ a.start) → (now : ℕ) → (b.clock < 2 ^ 32 → now < 2 ^ 32) → (a : Answer) → Idle a → Move b c a (with_active (map f b.active) (with_clock now b))
   freezes : (u : Unit) → Move b c (before (freeze_number (b.freezes u))) (with_freeze u (one_freeze (b.freezes u)) b)
   releases : (u : Unit) → c ≡ release u → Move b c (before (freeze_number (b.freezes u))) (with_freeze u (one_release (b.freezes u)) b)
@@ -120,9 +120,9 @@ move_judged b s accept e = joins (request (next_ticket b) (fields s)) (fields s)
 -- ---- sending
 
 -- what is found is a unit, and an eligible one
-abbrev pub FoundAble : (Unit → Bool) → Rotation → Type 0
-FoundAble able (Found u looked) = (u.0 < units) × (able u ≡ true)
-FoundAble able Nobody = Prim.Unit {0}
+abbrev pub FoundAble : (Unit → Bool) → Option Found → Type 0
+FoundAble able (Some x) = (x.unit.0 < units) × (able x.unit ≡ true)
+FoundAble able None = Prim.Unit {0}
 
 pub found_able : (able : Unit → Bool) (mark : Unit) (left n : ℕ) → FoundAble able (rotation able mark left n)
 unfolding rotation
@@ -136,10 +136,10 @@ unfolding sent_first
 move_first b u n [] e g = stays (nothing n) (idle_nothing n)
 move_first b u n (q ∷ more) e g = goes u q more n g e
 
-move_by : (b : Board) (r : Rotation) → FoundAble (eligible b) r → length b.active < most_active → Moved b send (sent_by b r)
+move_by : (b : Board) (r : Option Found) → FoundAble (eligible b) r → length b.active < most_active → Moved b send (sent_by b r)
 unfolding sent_by
-move_by b Nobody k h = stays (nothing units) (idle_nothing units)
-move_by b (Found u n) k h = move_first b u n (b.waiting u) refl (record { unit = k.0; able = k.1; fewer = h })
+move_by b None k h = stays (nothing units) (idle_nothing units)
+move_by b (Some x) k h = move_first b x.unit x.looked (b.waiting x.unit) refl (record { unit = k.0; able = k.1; fewer = h })
 
 move_sending : (b : Board) → Moved b send (sending b)
 unfolding sending
@@ -151,9 +151,9 @@ move_sending b =
 -- ---- an event
 
 -- the residual of an end is in range, for a data length that is
-abbrev Exact : Request → Ending → Type 0
-Exact q Refused = Prim.Unit {0}
-Exact q (Ended e) = data_length q ≤ 0xFFFFFF → InRange e.residual
+abbrev Exact : Request → Result End Implausible → Type 0
+Exact q (Err why) = Prim.Unit {0}
+Exact q (Ok e) = data_length q ≤ 0xFFFFFF → InRange e.residual
 
 in_range_or : (c : Bool) (m n : ℕ) → suc m ≤ 2147483647 → n ≤ 0xFFFFFF → InRange (cond c (negsuc m) (pos n))
 in_range_or true m n h k = h
@@ -171,39 +171,39 @@ exact_by q e moved refusal_102 h = tt
 exact : (a : Active) (e : Event) (moved : ℕ) → Exact a.request (ending a e moved)
 unfolding ending implausible
 exact a e moved =
-    if_ind (Exact a.request) (implausible a.request e moved) Refused (ending_by a.request e moved (base_status a e moved))
+    if_ind (Exact a.request) (implausible a.request e moved) (Err (record {})) (ending_by a.request e moved (base_status a e moved))
     (λ r. tt)
     (λ r. exact_by a.request e moved (base_status a e moved) (not_below (neither (0x7FFFFFFF <? moved) (sense_looked_at a.request e && sense_length a.request <? sense_bytes e) r).0))
 
 module _ (b : Board) (c : Call) where
-  move_reported_by : (a : Active) (x : Ending) → find ticket_of_active (ticket_of_active a) b.active ≡ some a → Exact a.request x → Moved b c (reported_by b a.request x)
+  move_reported_by : (a : Active) (x : Result End Implausible) → find ticket_of_active (ticket_of_active a) b.active ≡ Some a → Exact a.request x → Moved b c (reported_by b a.request x)
   unfolding reported_by
-  move_reported_by a Refused k r = stays (refused 102) (idle_refused 102)
-  move_reported_by a (Ended e) k r = ends a e k r
+  move_reported_by a (Err why) k r = stays (refused 102) (idle_refused 102)
+  move_reported_by a (Ok e) k r = ends a e k r
 
   move_reported : (t : Ticket) (e : Event) (moved : ℕ) (o : Option Active) → find ticket_of_active t b.active ≡ o → Moved b c (reported b e moved o)
   unfolding reported
-  move_reported t e moved none k = stays (refused 101) (idle_refused 101)
-  move_reported t e moved (some a) k =
+  move_reported t e moved None k = stays (refused 101) (idle_refused 101)
+  move_reported t e moved (Some a) k =
       move_reported_by a (ending a e moved)
-      (subst (λ s. find ticket_of_active s b.active ≡ some a) (sym (find_ticket ticket_of_active t b.active a k)) k)
+      (subst (λ s. find ticket_of_active s b.active ≡ Some a) (sym (find_ticket ticket_of_active t b.active a k)) k)
       (exact a e moved)
 
   -- ---- abort
 
   move_asked : (t : Ticket) (o : Option Active) → Moved b c (asked b t o)
   unfolding asked
-  move_asked t none = stays (refused 0x03) (idle_refused 0x03)
-  move_asked t (some a) = marks (ask t) (λ x. refl) (λ x. refl) b.clock (λ h. h) done idle_done
+  move_asked t None = stays (refused 0x03) (idle_refused 0x03)
+  move_asked t (Some a) = marks (ask t) (λ x. refl) (λ x. refl) b.clock (λ h. h) done idle_done
 
   move_aborted : (t : Ticket) (o : Option Request) → find (λ q. q.ticket) t (all_waiting b) ≡ o → Home b → Moved b c (aborted b t o)
   unfolding aborted
-  move_aborted t none k h = move_asked t (find ticket_of_active t b.active)
-  move_aborted t (some q) k h =
+  move_aborted t None k h = move_asked t (find ticket_of_active t b.active)
+  move_aborted t (Some q) k h =
       let w = find_of_units (λ r. r.ticket) t units b.waiting q k in
       let u : q.unit ≡ w.0 = find_each (λ r. r.ticket) (λ r. r.unit ≡ w.0) t (b.waiting w.0) q (h w.0) w.2 in
       let s : q.ticket ≡ t = find_ticket (λ r. r.ticket) t (b.waiting w.0) q w.2 in
-      aborts q (rw u w.1) (subst₂ (λ x v. find (λ r. r.ticket) x (b.waiting v) ≡ some q) (sym s) (sym u) w.2)
+      aborts q (rw u w.1) (subst₂ (λ x v. find (λ r. r.ticket) x (b.waiting v) ≡ Some q) (sym s) (sym u) w.2)
 
   -- ---- the other calls
 

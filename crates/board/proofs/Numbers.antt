@@ -1,9 +1,10 @@
 -- Numbers from outside: an event's code and a unit's number. Assumes nothing.
+use Rattle.std.specs.Prelude.{Ok}
 use Prim.Native.Nat.{ℕ, ◌≤◌, ◌<◌, min}
 use native.Mathlib.Omega.{arith}
 use mathlib.Core.Path.{◌≡◌, refl, ap}
 use mathlib.Core.Bool.{false}
-use Rattle.board.specs.Types.{Unit, Event, AbortDone, SelectionTimeout, Parity, BusFree, Phase, AdapterError, Complete, Names}
+use Rattle.board.specs.Types.{Unit, Event, AbortDone, SelectionTimeout, Parity, BusFree, Phase, AdapterError, Complete}
 use Rattle.board.specs.Plain.{◌≤?◌}
 use Rattle.board.specs.Board.{Board, Freeze, the_unit, units, one_freeze, one_release}
 use Rattle.board.specs.Calls.{freezing, freeze, release, step}
@@ -11,7 +12,7 @@ use Rattle.board.specs.Ending.{is_abort_done, is_complete, own_status, event_nam
 use Rattle.board.proofs.Choose.{true≢false, by_cases, at_most, not_at_most, unless_below, one_unit}
 
 -- an event that has a status of its own is named by it
-pub named_by_its_status : (e : Event) → is_abort_done e ≡ false → is_complete e ≡ false → event_named (own_status e) ≡ Names e
+pub named_by_its_status : (e : Event) → is_abort_done e ≡ false → is_complete e ≡ false → event_named (own_status e) ≡ Ok e
 unfolding event_named
 named_by_its_status AbortDone a c = true≢false a
 named_by_its_status SelectionTimeout a c = refl

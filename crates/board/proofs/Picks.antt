@@ -1,11 +1,11 @@
 -- A send does not see the frozen units' waiting requests. Assumes nothing.
-use Rattle.std.specs.Prelude.{if◌then◌else◌}
+use Rattle.std.specs.Prelude.{Option, Some, None, if◌then◌else◌}
 use mathlib.Core.Path.{◌≡◌, refl, sym, ◌∙◌, ap, subst, fun_ext}
 use mathlib.Core.Bool.{Bool, true, false, not, ◌&&◌}
 use mathlib.Core.List.{List, [], ◌∷◌, ◌++◌}
 use Prim.Native.Nat.{ℕ}
 use lib.ListN.{length}
-use Rattle.board.specs.Types.{Unit, Request, Rotation, Found, Nobody}
+use Rattle.board.specs.Types.{Unit, Request, Found}
 use Rattle.board.specs.Plain.{◌≤?◌}
 use Rattle.board.specs.Board.{same_unit, at, units, most_active, Board, frozen}
 use Rattle.board.specs.Answers.{nothing, Stepped, says}
@@ -55,11 +55,11 @@ same_first b u n (q ∷ more) e = record {
   board = ap (λ w. record { waiting = w; active = b.active ++ (record { request = q; start = b.clock; asked = false; overdue = false } ∷ []); finished = b.finished; freezes = b.freezes; clock = b.clock; mark = u; given = b.given }) (thinned_at b u more e);
 }
 
-same_by : (b : Board) (r : Rotation) → FoundAble (eligible b) r → SamePick b (sent_by (thinned b) r) (sent_by b r)
+same_by : (b : Board) (r : Option Found) → FoundAble (eligible b) r → SamePick b (sent_by (thinned b) r) (sent_by b r)
 unfolding sent_by
-same_by b Nobody k = record { answer = refl; board = refl }
-same_by b (Found u n) k =
-    let e = not_frozen b u k.1 in
+same_by b None k = record { answer = refl; board = refl }
+same_by b (Some x) k =
+    let u = x.unit in let n = x.looked in let e = not_frozen b u k.1 in
     subst (λ l. SamePick b (sent_first (thinned b) u n l) (sent_first b u n (b.waiting u))) (sym (thinned_waiting b u e)) (same_first b u n (b.waiting u) e)
 
 same_pick_sending : (b : Board) → SamePick b (sending (thinned b)) (sending b)

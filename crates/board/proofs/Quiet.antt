@@ -1,12 +1,12 @@
 -- Between a unit's freeze and its release nothing is sent for it. Assumes nothing.
+use Rattle.std.specs.Prelude.{Ok, Some}
 use mathlib.Core.Path.{◌≡◌, refl, sym, ◌∙◌, ap, subst}
 use mathlib.Core.Logic.{◌≢◌}
 use mathlib.Core.Bool.{Bool, true, false, not, ◌||◌, ◌&&◌}
-use mathlib.Core.Option.{some}
 use mathlib.Core.List.{List, [], ◌∷◌}
 use Prim.Native.Nat.{ℕ}
 use native.Mathlib.Omega.{arith}
-use Rattle.board.specs.Types.{Ticket, Unit, Request, Active, Event, End, Ended}
+use Rattle.board.specs.Types.{Ticket, Unit, Request, Active, Event, End}
 use Rattle.board.specs.Plain.{◌=?◌, ◌<?◌, any, Each}
 use Rattle.board.specs.Board.{same_unit, units, find, by_ticket, ticket_of_active, Freeze, is_frozen, one_freeze, one_release, freeze_number, Board, fresh, frozen, with_active, with_freeze}
 use Rattle.board.specs.Answers.{Answer, refused, taken, sent, nothing, done, before, time, first, empty, handed, says}
@@ -143,7 +143,7 @@ quiet_run (c ∷ more) b u m h k =
 -- ---- what freezes a unit
 
 frozen_by_event : (b : Board) (t : Ticket) (a : Active) (e : Event) (moved : ℕ) (x : End)
-    → find ticket_of_active t b.active ≡ some a → ending a e moved ≡ Ended x → x.base ≢ 0x01 → frozen (step b (event t e moved)).board a.request.unit ≡ true
+    → find ticket_of_active t b.active ≡ Some a → ending a e moved ≡ Ok x → x.base ≢ 0x01 → frozen (step b (event t e moved)).board a.request.unit ≡ true
 unfolding step reporting reported reported_by
 frozen_by_event b t a e moved x k m n = rw (k, reported, m, reported_by) (now_frozen a.request x _ n)
 

@@ -1,11 +1,11 @@
 -- Freezing or releasing alters no other unit's records: by call, by an end, by a bus reset. Assumes nothing.
+use Rattle.std.specs.Prelude.{Result, Ok, Err, Some}
 use mathlib.Core.Path.{◌≡◌, refl, sym, ◌∙◌, ap, subst}
 use mathlib.Core.Logic.{◌≢◌}
 use mathlib.Core.Bool.{false}
-use mathlib.Core.Option.{some}
 use mathlib.Core.List.{List, [], ◌∷◌}
 use Prim.Native.Nat.{ℕ}
-use Rattle.board.specs.Types.{Ticket, Unit, Active, Event, Ending, Ended, Refused}
+use Rattle.board.specs.Types.{Ticket, Unit, Active, Event, End, Implausible}
 use Rattle.board.specs.Plain.{◌<?◌, any}
 use Rattle.board.specs.Board.{same_unit, same_ticket, units, find, without, by_ticket, ticket_of_active, Freeze, one_freeze, one_release, freeze_number, Board, with_active, with_freeze}
 use Rattle.board.specs.Answers.{refused, before, says}
@@ -45,11 +45,11 @@ release_alone = alone one_release
 -- ---- by an event
 
 -- an active request of another unit taken out
-active_without : (v : Unit) (t : Ticket) (l : List Active) (a : Active) → find ticket_of_active t l ≡ some a → v ≢ a.request.unit → active_on v (without ticket_of_active t l) ≡ active_on v l
+active_without : (v : Unit) (t : Ticket) (l : List Active) (a : Active) → find ticket_of_active t l ≡ Some a → v ≢ a.request.unit → active_on v (without ticket_of_active t l) ≡ active_on v l
 unfolding find without active_on
 active_without v t [] a = λ e n. none≢some e
 active_without v t (x ∷ more) a =
-    both_ifs (λ o l. o ≡ some a → v ≢ a.request.unit → active_on v l ≡ active_on v (x ∷ more)) (same_ticket (ticket_of_active x) t) (some x) (find ticket_of_active t more) more (x ∷ without ticket_of_active t more)
+    both_ifs (λ o l. o ≡ Some a → v ≢ a.request.unit → active_on v l ≡ active_on v (x ∷ more)) (same_ticket (ticket_of_active x) t) (Some x) (find ticket_of_active t more) more (x ∷ without ticket_of_active t more)
     (λ e n.
     let p : x ≡ a = cc in
     let q : same_unit x.request.unit v ≡ false = refute (same_unit x.request.unit v) (λ k. absurd (n (sym (one_unit (same k)) ∙ ap (λ y. y.request.unit) p))) in
@@ -60,20 +60,20 @@ module _ (b : Board) (v : Unit) where
   unaltered : SameRecords v b b
   unaltered = record { waiting = refl; active = refl; freeze = refl }
 
-  event_by : (a : Active) (x : Ending) → find ticket_of_active (ticket_of_active a) b.active ≡ some a → v ≢ a.request.unit → SameRecords v b (reported_by b a.request x).board
+  event_by : (a : Active) (x : Result End Implausible) → find ticket_of_active (ticket_of_active a) b.active ≡ Some a → v ≢ a.request.unit → SameRecords v b (reported_by b a.request x).board
   unfolding reported_by ended_active
-  event_by a Refused k n = unaltered
-  event_by a (Ended e) k n = record {
+  event_by a (Err why) k n = unaltered
+  event_by a (Ok e) k n = record {
     waiting = refl;
     active = active_without v (ticket_of_active a) b.active a k n;
     freeze = at_other a.request.unit v (freeze_after e.base (b.freezes a.request.unit)) b.freezes n;
   }
 
-pub event_alone : (b : Board) (t : Ticket) (e : Event) (moved : ℕ) (a : Active) (v : Unit) → find ticket_of_active t b.active ≡ some a → v ≢ a.request.unit → SameRecords v b (step b (event t e moved)).board
+pub event_alone : (b : Board) (t : Ticket) (e : Event) (moved : ℕ) (a : Active) (v : Unit) → find ticket_of_active t b.active ≡ Some a → v ≢ a.request.unit → SameRecords v b (step b (event t e moved)).board
 unfolding step reporting reported
 event_alone b t e moved a v k n =
     rw (k, reported)
-    (event_by b v a (ending a e moved) (subst (λ s. find ticket_of_active s b.active ≡ some a) (sym (find_ticket ticket_of_active t b.active a k)) k) n)
+    (event_by b v a (ending a e moved) (subst (λ s. find ticket_of_active s b.active ≡ Some a) (sym (find_ticket ticket_of_active t b.active a k)) k) n)
 
 -- ---- by a bus reset
 

@@ -1,11 +1,11 @@
 -- When each call is refused, and what a refusal does. Assumes nothing.
+use Rattle.std.specs.Prelude.{Option, Some, None, Result, Ok, Err}
 use mathlib.Core.Path.{◌≡◌, refl, subst}
 use mathlib.Core.Bool.{true}
-use mathlib.Core.Option.{Option, none, some}
 use mathlib.Core.List.{List, [], ◌∷◌}
 use Prim.Native.Nat.{ℕ, ◌≤◌}
 use lib.ListN.{length}
-use Rattle.board.specs.Types.{Ticket, Unit, Request, Active, Finished, Rotation, Found, Nobody, Event, Ending, Ended, Refused}
+use Rattle.board.specs.Types.{Ticket, Unit, Request, Active, Finished, Found, Event, End, Implausible}
 use Rattle.board.specs.Plain.{◌=?◌, ◌<?◌, ◌≤?◌, Row, ◌⇒◌, first_that_applies, any, Each}
 use Rattle.board.specs.Board.{units, find, ticket_of_active, most_active, Freeze, one_freeze, one_release, freeze_number, Board, all_waiting, with_freeze}
 use Rattle.board.specs.Block.{with_status}
@@ -85,10 +85,10 @@ unfolding sent_first Each
 no_first b u n [] = tt
 no_first b u n (q ∷ more) = tt
 
-no_by : (b : Board) (r : Rotation) → SaysNo b send (sent_by b r)
+no_by : (b : Board) (r : Option Found) → SaysNo b send (sent_by b r)
 unfolding sent_by Each
-no_by b Nobody = tt
-no_by b (Found u n) = no_first b u n (b.waiting u)
+no_by b None = tt
+no_by b (Some x) = no_first b x.unit x.looked (b.waiting x.unit)
 
 no_sending : (b : Board) → SaysNo b send (sending b)
 unfolding sending Each
@@ -97,28 +97,28 @@ no_sending b = if_ind (SaysNo b send) (most_active ≤? length b.active) (says b
 -- ---- an event
 
 module _ (b : Board) (t : Ticket) (e : Event) (moved : ℕ) where
-  no_reported_by : (a : Active) (x : Ending) → find ticket_of_active t b.active ≡ some a → ending a e moved ≡ x → SaysNo b (event t e moved) (reported_by b a.request x)
+  no_reported_by : (a : Active) (x : Result End Implausible) → find ticket_of_active t b.active ≡ Some a → ending a e moved ≡ x → SaysNo b (event t e moved) (reported_by b a.request x)
   unfolding reported_by Each
-  no_reported_by a Refused k m = no b (event t e moved) 102 [] (implausible t e moved a k m)
-  no_reported_by a (Ended x) k m = tt
+  no_reported_by a (Err why) k m = no b (event t e moved) 102 [] (implausible t e moved a k m)
+  no_reported_by a (Ok x) k m = tt
 
   no_reported : (o : Option Active) → find ticket_of_active t b.active ≡ o → SaysNo b (event t e moved) (reported b e moved o)
   unfolding reported Each
-  no_reported none k = no b (event t e moved) 101 [] (not_active t e moved k)
-  no_reported (some a) k = no_reported_by a (ending a e moved) k refl
+  no_reported None k = no b (event t e moved) 101 [] (not_active t e moved k)
+  no_reported (Some a) k = no_reported_by a (ending a e moved) k refl
 
 -- ---- abort
 
 module _ (b : Board) (t : Ticket) where
-  no_asked : (o : Option Active) → find (λ q. q.ticket) t (all_waiting b) ≡ none → find ticket_of_active t b.active ≡ o → SaysNo b (abort t) (asked b t o)
+  no_asked : (o : Option Active) → find (λ q. q.ticket) t (all_waiting b) ≡ None → find ticket_of_active t b.active ≡ o → SaysNo b (abort t) (asked b t o)
   unfolding asked Each
-  no_asked none w k = no b (abort t) 0x03 [] (finished_or_unknown t w k)
-  no_asked (some a) w k = tt
+  no_asked None w k = no b (abort t) 0x03 [] (finished_or_unknown t w k)
+  no_asked (Some a) w k = tt
 
   no_aborted : (o : Option Request) → find (λ q. q.ticket) t (all_waiting b) ≡ o → SaysNo b (abort t) (aborted b t o)
   unfolding aborted Each
-  no_aborted none w = no_asked (find ticket_of_active t b.active) w refl
-  no_aborted (some q) w = tt
+  no_aborted None w = no_asked (find ticket_of_active t b.active) w refl
+  no_aborted (Some q) w = tt
 
 -- ---- the other calls
 

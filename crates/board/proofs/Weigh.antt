@@ -1,10 +1,9 @@
 -- Lists weighed by a number for each element, and what the list operations of specs/ do to the weight. A count and a length
 -- are weights, so what is proved of every weight is proved of both. Assumes nothing.
-use Rattle.std.specs.Prelude.{if◌then◌else◌}
+use Rattle.std.specs.Prelude.{if◌then◌else◌, Some}
 use mathlib.Core.Path.{◌≡◌, refl, sym, ◌∙◌, ap, subst}
 use mathlib.Core.Logic.{◌⊎◌, inl, inr, ◌≢◌}
 use mathlib.Core.Bool.{Bool, true, false, ◌||◌}
-use mathlib.Core.Option.{some}
 use mathlib.Core.List.{List, [], ◌∷◌, ◌++◌, map}
 use Prim.Native.Nat.{ℕ, zero, suc, ◌+◌, ◌≤◌, ◌<◌}
 use native.Mathlib.Omega.{arith}
@@ -124,50 +123,50 @@ each_map P f Q k (x ∷ xs) h = (k x h.0, each_map P f Q k xs h.1)
 
 module _ {A : Type 0} (ticket_of : A → Ticket) where
   -- what is found has the ticket
-  pub find_ticket : (t : Ticket) (xs : List A) (x : A) → find ticket_of t xs ≡ some x → ticket_of x ≡ t
+  pub find_ticket : (t : Ticket) (xs : List A) (x : A) → find ticket_of t xs ≡ Some x → ticket_of x ≡ t
   unfolding find
   find_ticket t [] x = λ e. none≢some e
   find_ticket t (y ∷ ys) x =
-      if_ind (λ o. o ≡ some x → ticket_of x ≡ t) (same_ticket (ticket_of y) t) (some y) (find ticket_of t ys)
+      if_ind (λ o. o ≡ Some x → ticket_of x ≡ t) (same_ticket (ticket_of y) t) (Some y) (find ticket_of t ys)
       (λ k e. let p : ticket_of y ≡ t = one_ticket (same k) in let q : y ≡ x = cc in ap ticket_of (sym q) ∙ p)
       (λ k e. find_ticket t ys x e)
 
   -- and each property that all of them have
-  pub find_each : (P : A → Type 0) (t : Ticket) (xs : List A) (x : A) → Each P xs → find ticket_of t xs ≡ some x → P x
+  pub find_each : (P : A → Type 0) (t : Ticket) (xs : List A) (x : A) → Each P xs → find ticket_of t xs ≡ Some x → P x
   unfolding find Each
   find_each P t [] x h = λ e. none≢some e
   find_each P t (y ∷ ys) x h =
-      if_ind (λ o. o ≡ some x → P x) (same_ticket (ticket_of y) t) (some y) (find ticket_of t ys)
+      if_ind (λ o. o ≡ Some x → P x) (same_ticket (ticket_of y) t) (Some y) (find ticket_of t ys)
       (λ k e. let q : y ≡ x = cc in subst P q h.0)
       (λ k e. find_each P t ys x h.1 e)
 
-  find_append : (t : Ticket) (xs ys : List A) (x : A) → find ticket_of t (xs ++ ys) ≡ some x → (find ticket_of t xs ≡ some x) ⊎ (find ticket_of t ys ≡ some x)
+  find_append : (t : Ticket) (xs ys : List A) (x : A) → find ticket_of t (xs ++ ys) ≡ Some x → (find ticket_of t xs ≡ Some x) ⊎ (find ticket_of t ys ≡ Some x)
   unfolding find
   find_append t [] ys x = λ e. inr e
   find_append t (z ∷ zs) ys x =
       if_ind
-      (λ o. o ≡ some x → (find ticket_of t (z ∷ zs) ≡ some x) ⊎ (find ticket_of t ys ≡ some x))
-      (same_ticket (ticket_of z) t) (some z) (find ticket_of t (zs ++ ys))
+      (λ o. o ≡ Some x → (find ticket_of t (z ∷ zs) ≡ Some x) ⊎ (find ticket_of t ys ≡ Some x))
+      (same_ticket (ticket_of z) t) (Some z) (find ticket_of t (zs ++ ys))
       (λ k e. inl (rw k e))
       (λ k e. rw k (find_append t zs ys x e))
 
   -- what is found among the units' lists is found in one of them
-  pub find_of_units : (t : Ticket) (n : ℕ) (w : Unit → List A) (x : A) → find ticket_of t (of_units n w) ≡ some x → (u : Unit) × (u.0 < n) × (find ticket_of t (w u) ≡ some x)
+  pub find_of_units : (t : Ticket) (n : ℕ) (w : Unit → List A) (x : A) → find ticket_of t (of_units n w) ≡ Some x → (u : Unit) × (u.0 < n) × (find ticket_of t (w u) ≡ Some x)
   unfolding of_units find
   find_of_units t zero w x e = none≢some e
   find_of_units t (suc n) w x e = go (λ k. find_of_units t n w x k) (find_append t (of_units n w) (w (the_unit n)) x e)
     where
-      go : (find ticket_of t (of_units n w) ≡ some x → (u : Unit) × (u.0 < n) × (find ticket_of t (w u) ≡ some x))
-          → (find ticket_of t (of_units n w) ≡ some x) ⊎ (find ticket_of t (w (the_unit n)) ≡ some x) → (u : Unit) × (u.0 < suc n) × (find ticket_of t (w u) ≡ some x)
+      go : (find ticket_of t (of_units n w) ≡ Some x → (u : Unit) × (u.0 < n) × (find ticket_of t (w u) ≡ Some x))
+          → (find ticket_of t (of_units n w) ≡ Some x) ⊎ (find ticket_of t (w (the_unit n)) ≡ Some x) → (u : Unit) × (u.0 < suc n) × (find ticket_of t (w u) ≡ Some x)
       go rest (inl k) = let r = rest k in (r.0, omega arith, r.2)
       go rest (inr k) = (the_unit n, omega arith, k)
 
   -- taking out what is found takes its weight off
-  pub weigh_without : (g : A → ℕ) (t : Ticket) (xs : List A) (x : A) → find ticket_of t xs ≡ some x → weigh g (without ticket_of t xs) + g x ≡ weigh g xs
+  pub weigh_without : (g : A → ℕ) (t : Ticket) (xs : List A) (x : A) → find ticket_of t xs ≡ Some x → weigh g (without ticket_of t xs) + g x ≡ weigh g xs
   unfolding find without
   weigh_without g t [] x = λ e. none≢some e
   weigh_without g t (y ∷ ys) x =
-      both_ifs (λ o l. o ≡ some x → weigh g l + g x ≡ g y + weigh g ys) (same_ticket (ticket_of y) t) (some y) (find ticket_of t ys) ys (y ∷ without ticket_of t ys)
+      both_ifs (λ o l. o ≡ Some x → weigh g l + g x ≡ g y + weigh g ys) (same_ticket (ticket_of y) t) (Some y) (find ticket_of t ys) ys (y ∷ without ticket_of t ys)
       (λ e. let q : y ≡ x = cc in let p : g y ≡ g x = ap g q in omega arith)
       (λ e. let p = weigh_without g t ys x e in omega arith)
 

@@ -1,13 +1,8 @@
 -- The answers, in document 01's numbers and values, and what each answer of the code says in them. Assumes nothing.
-use Rattle.std.specs.Prelude.{Bool, List, [], ℕ}
-use Rattle.board.specs.Types.{Ticket, Unit, Cdb, Told, Refusal, CamBusy, InvalidRequest, InvalidPath, LengthInadequate, CannotProvide, TakingIn, Sending, Reporting, Aborting, Freezing, Looking, HandingBack}
-use Rattle.board.specs.declared.TakingIn.TheVariants as taking_in
-use Rattle.board.specs.declared.Sending.TheVariants as sending
-use Rattle.board.specs.declared.Reporting.TheVariants as reporting
-use Rattle.board.specs.declared.Aborting.TheVariants as aborting
-use Rattle.board.specs.declared.Freezing.TheVariants as freezing
-use Rattle.board.specs.declared.Looking.TheVariants as looking
-use Rattle.board.specs.declared.HandingBack.TheVariants as handing_back
+use Rattle.std.specs.Prelude.{Bool, List, [], ℕ, Option, Some, None, Result, Ok, Err, if◌then◌else◌}
+use Rattle.board.specs.Types.{Ticket, Unit, Cdb, Told, Refusal, CamBusy, InvalidRequest, InvalidPath, LengthInadequate, CannotProvide, Sending, Unreported, UnableToAbort, NoSuchUnit, First, Handed, NotHanded}
+use Rattle.board.specs.declared.Unreported.TheVariants as unreported
+use Rattle.board.specs.declared.NotHanded.TheVariants as not_handed
 use Rattle.board.specs.Board.{Board}
 
 pub data Answer : Type 0 where
@@ -40,7 +35,7 @@ pub record Stepped : Type 0 where
 abbrev pub says : Board → Answer → Stepped
 says b a = record { board = b; answer = a; lent = [] }
 
--- ---- what the code's answers say. (A tick answers the clock, a bus reset nothing: they have no enum.)
+-- ---- the refusals' numbers
 
 abbrev pub number : Refusal → ℕ
 number CamBusy = 0x05
@@ -49,32 +44,49 @@ number InvalidPath = 0x07
 number LengthInadequate = 0x15
 number CannotProvide = 0x16
 
-abbrev pub taking_in_says : TakingIn → Answer
-taking_in_says (taking_in.Taken t) = taken t
-taking_in_says (taking_in.Refused r) = refused (number r)
+abbrev pub event_number : Unreported → ℕ
+event_number unreported.NotActive = 101
+event_number unreported.Implausible = 102
+
+abbrev pub abort_number : UnableToAbort → ℕ
+abort_number why = 0x03
+
+abbrev pub unit_number : NoSuchUnit → ℕ
+unit_number why = 103
+
+abbrev pub hand_back_number : NotHanded → ℕ
+hand_back_number not_handed.LineEmpty = 104
+hand_back_number not_handed.NotItsBlock = 105
+
+-- true is 1
+abbrev pub bit : Bool → ℕ
+bit x = if x then 1 else 0
+
+-- ---- what the code's answers say. (A tick answers the clock, a bus reset nothing: `time` and `done` say it.)
+
+abbrev pub taking_in_says : Result Ticket Refusal → Answer
+taking_in_says (Ok t) = taken t
+taking_in_says (Err why) = refused (number why)
 
 abbrev pub sending_says : Sending → Answer
-sending_says (sending.Sent t u cdb looked) = sent t u cdb looked
-sending_says (sending.Nothing looked) = nothing looked
+sending_says x = elim x.sent [ Some s ↦ sent s.ticket s.unit s.cdb x.looked | None ↦ nothing x.looked ]
 
-abbrev pub reporting_says : Reporting → Answer
-reporting_says reporting.Ended = done
-reporting_says reporting.NotActive = refused 101
-reporting_says reporting.Implausible = refused 102
+abbrev pub reporting_says : Result (Prim.Unit {0}) Unreported → Answer
+reporting_says (Ok ended) = done
+reporting_says (Err why) = refused (event_number why)
 
-abbrev pub aborting_says : Aborting → Answer
-aborting_says aborting.Done = done
-aborting_says aborting.UnableToAbort = refused 0x03
+abbrev pub aborting_says : Result (Prim.Unit {0}) UnableToAbort → Answer
+aborting_says (Ok aborted) = done
+aborting_says (Err why) = refused (abort_number why)
 
-abbrev pub freezing_says : Freezing → Answer
-freezing_says (freezing.Before n) = before n
-freezing_says freezing.NoSuchUnit = refused 103
+abbrev pub freezing_says : Result Bool NoSuchUnit → Answer
+freezing_says (Ok was_frozen) = before (bit was_frozen)
+freezing_says (Err why) = refused (unit_number why)
 
-abbrev pub looking_says : Looking → Answer
-looking_says (looking.First t address callback wanted) = first t address callback wanted
-looking_says looking.Empty = empty
+abbrev pub looking_says : Option First → Answer
+looking_says (Some x) = first x.ticket x.address x.callback x.wanted
+looking_says None = empty
 
-abbrev pub handing_back_says : HandingBack → Answer
-handing_back_says (handing_back.Handed t x) = handed t x
-handing_back_says handing_back.Empty = refused 104
-handing_back_says handing_back.NotItsBlock = refused 105
+abbrev pub handing_back_says : Result Handed NotHanded → Answer
+handing_back_says (Ok x) = handed x.ticket x.told
+handing_back_says (Err why) = refused (hand_back_number why)

@@ -1,6 +1,5 @@
 -- What the board holds. Assumes nothing.
-use Rattle.std.specs.Prelude.{Bool, true, false, List, [], ◌∷◌, ◌++◌, map, ℕ, zero, suc, ◌+◌, ◌*◌, if◌then◌else◌}
-use Rattle.std.proofs.Math.Option.{Option, none, some}
+use Rattle.std.specs.Prelude.{Bool, true, false, List, [], ◌∷◌, ◌++◌, map, ℕ, zero, suc, ◌+◌, ◌*◌, if◌then◌else◌, Option, None, Some}
 use Rattle.board.specs.Types.{Ticket, Unit, Request, Active, Finished}
 use Rattle.board.specs.Plain.{◌=?◌, ◌<?◌}
 
@@ -38,8 +37,8 @@ of_units (suc n) f = of_units n f ++ f (the_unit n)
 -- tickets, smallest first.
 module _ {A : Type 0} (ticket_of : A → Ticket) where
   unfoldable pub find : Ticket → List A → Option A
-  find t [] = none
-  find t (x ∷ xs) = if same_ticket (ticket_of x) t then some x else find t xs
+  find t [] = None
+  find t (x ∷ xs) = if same_ticket (ticket_of x) t then Some x else find t xs
 
   unfoldable pub without : Ticket → List A → List A
   without t [] = []

@@ -1,6 +1,5 @@
 -- The other calls, and all of them together: `step` and `run`. Assumes nothing.
-use Rattle.std.specs.Prelude.{Bool, not, ◌&&◌, ◌||◌, List, [], ◌∷◌, map, ℕ, suc, ◌+◌, ◌-◌, ◌%◌, ◌^◌, length, if◌then◌else◌}
-use Rattle.std.proofs.Math.Option.{Option, none, some}
+use Rattle.std.specs.Prelude.{Bool, not, ◌&&◌, ◌||◌, List, [], ◌∷◌, map, ℕ, suc, ◌+◌, ◌-◌, ◌%◌, ◌^◌, length, if◌then◌else◌, Option, None, Some}
 use Rattle.board.specs.Types.{Ticket, Unit, Request, Active, Finished, Event}
 use Rattle.board.specs.Plain.{◌=?◌, ◌<?◌}
 use Rattle.board.specs.Board.{same_ticket, units, find, without, by_ticket, ticket_of_active, Freeze, freeze_number, one_freeze, one_release, Board, frozen, all_waiting, with_waiting, with_active, with_finished, with_freeze, with_clock}
@@ -23,12 +22,12 @@ ask t a = record { request = a.request; start = a.start; asked = a.asked || same
 
 -- Active is marked asked (again: the same answer, no change). Finished or unknown: refusal 03h, no change.
 unfoldable pub asked : Board → Ticket → Option Active → Stepped
-asked b t (some a) = says (with_active (map (ask t) b.active) b) done
-asked b t none = says b (refused 0x03)
+asked b t (Some a) = says (with_active (map (ask t) b.active) b) done
+asked b t None = says b (refused 0x03)
 
 unfoldable pub aborted : Board → Ticket → Option Request → Stepped
-aborted b t (some q) = says (ended_waiting q b) done
-aborted b t none = asked b t (find ticket_of_active t b.active)
+aborted b t (Some q) = says (ended_waiting q b) done
+aborted b t None = asked b t (find ticket_of_active t b.active)
 
 unfoldable pub aborting : Board → Ticket → Stepped
 aborting b t = aborted b t (find (λ q. q.ticket) t (all_waiting b))

@@ -1,8 +1,7 @@
 -- Demand 3: what is said of every run of calls on a fresh board, and of every freeze, release and send. proofs/Demand3.antt proves
 -- it. Assumes nothing.
-use Rattle.std.specs.Prelude.{◌≡◌, ◌≢◌, true, false, List, [], ◌∷◌, ◌++◌, map, ℕ, ◌+◌, ◌≤◌, ◌<◌, length, if◌then◌else◌}
-use Rattle.std.proofs.Math.Option.{some}
-use Rattle.board.specs.Types.{Ticket, Unit, Cdb, Active, Event, End, Ended}
+use Rattle.std.specs.Prelude.{◌≡◌, ◌≢◌, true, false, List, [], ◌∷◌, ◌++◌, map, ℕ, ◌+◌, ◌≤◌, ◌<◌, length, Ok, if◌then◌else◌, Some}
+use Rattle.board.specs.Types.{Ticket, Unit, Cdb, Active, Event, End}
 use Rattle.board.specs.Plain.{count, Each}
 use Rattle.board.specs.Board.{same_unit, same_ticket, units, find, ticket_of_active, Board, fresh, frozen, all_waiting}
 use Rattle.board.specs.Answers.{Answer, refused, taken, sent, nothing, done, before, time, first, empty, handed}
@@ -84,9 +83,9 @@ pub data Freezes (b : Board) (u : Unit) : Call → Type 0 where
   by_call : u.0 < units → Freezes b u (freeze u)
   by_bad_end :
       (t : Ticket) (a : Active) (e : Event) (moved : ℕ) (x : End)
-      → find ticket_of_active t b.active ≡ some a
+      → find ticket_of_active t b.active ≡ Some a
       → a.request.unit ≡ u
-      → ending a e moved ≡ Ended x
+      → ending a e moved ≡ Ok x
       → x.base ≢ 0x01
       → Freezes b u (event t e moved)
   by_reset : busy u b.active ≡ true → Freezes b u reset
@@ -151,7 +150,7 @@ pub record Demand3 : Type 0 where
   -- an event alters the records of no unit but its request's; a bus reset those of no unit without an active request
   pub event_alone :
       (b : Board) (t : Ticket) (e : Event) (moved : ℕ) (a : Active) (v : Unit)
-      → find ticket_of_active t b.active ≡ some a
+      → find ticket_of_active t b.active ≡ Some a
       → v ≢ a.request.unit
       → SameRecords v b (step b (event t e moved)).board
   pub reset_alone : (b : Board) (v : Unit) → busy v b.active ≡ false → SameRecords v b (step b reset).board

@@ -1,7 +1,7 @@
 -- How a request ends: the events, the table of base statuses, sense, the freeze, the status byte. Assumes nothing.
-use Rattle.std.specs.Prelude.{Bool, true, false, not, ◌&&◌, ◌||◌, List, [], ◌∷◌, ◌++◌, ℕ, ◌+◌, ◌-◌, pos, ◌-ℤ◌, if◌then◌else◌}
-use Rattle.std.proofs.Math.Option.{Option, none, some}
-use Rattle.board.specs.Types.{Ticket, Request, Active, Told, Sense, Bytes, Failed, None, Event, AbortDone, SelectionTimeout, Parity, BusFree, Phase, AdapterError, Complete, Coded, Names, Nothing, End, Ending, Ended, Refused}
+use Rattle.std.specs.Prelude.{Bool, true, false, not, ◌&&◌, ◌||◌, List, [], ◌∷◌, ◌++◌, ℕ, ◌+◌, ◌-◌, pos, ◌-ℤ◌, Result, Ok, Err, if◌then◌else◌, Option, None, Some}
+use Rattle.board.specs.Types.{Ticket, Request, Active, Told, Sense, Event, AbortDone, SelectionTimeout, Parity, BusFree, Phase, AdapterError, Complete, NoSuchEvent, End, Implausible}
+use Rattle.board.specs.declared.Sense.TheVariants as came
 use Rattle.board.specs.Plain.{◌=?◌, ◌<?◌, ◌≤?◌, Row, ◌⇒◌, first_that_applies}
 use Rattle.board.specs.Board.{find, without, ticket_of_active, data_length, sense_length, Freeze, is_frozen, one_freeze, Board, with_active, with_finished, with_freeze}
 use Rattle.board.specs.Answers.{refused, done, Stepped, says}
@@ -37,14 +37,14 @@ own_status AdapterError = 0x19
 own_status (Complete scsi sense) = 0
 
 -- the event that such a code names, or none
-unfoldable pub event_named : ℕ → Coded
+unfoldable pub event_named : ℕ → Result Event NoSuchEvent
 event_named n =
-    if n =? 0x0A then Names SelectionTimeout
-    else if n =? 0x0F then Names Parity
-    else if n =? 0x13 then Names BusFree
-    else if n =? 0x14 then Names Phase
-    else if n =? 0x19 then Names AdapterError
-    else Nothing
+    if n =? 0x0A then Ok SelectionTimeout
+    else if n =? 0x0F then Ok Parity
+    else if n =? 0x13 then Ok BusFree
+    else if n =? 0x14 then Ok Phase
+    else if n =? 0x19 then Ok AdapterError
+    else Err (record {})
 
 -- SCSI status is the event's for "complete", else 0.
 abbrev pub scsi_status : Event → ℕ
@@ -58,9 +58,9 @@ scsi_status (Complete scsi sense) = scsi
 
 -- an outcome "none" counts as failed, failed means 0 bytes
 abbrev pub bytes_of : Sense → ℕ
-bytes_of (Bytes n) = n
-bytes_of Failed = 0
-bytes_of None = 0
+bytes_of (came.Bytes n) = n
+bytes_of came.Failed = 0
+bytes_of came.None = 0
 
 -- the sense bytes that came with a "complete"
 abbrev pub sense_bytes : Event → ℕ
@@ -128,13 +128,13 @@ end_unmoved n q = record { base = n; scsi = 0; sensed = false; unsensed = 0; res
 unfoldable pub implausible : Request → Event → (moved : ℕ) → Bool
 implausible q e moved = 0x7FFFFFFF <? moved || (sense_looked_at q e && sense_length q <? sense_bytes e)
 
-unfoldable pub ending_by : Request → Event → (moved : ℕ) → Base → Ending
-ending_by q e moved (base n) = Ended (end_by_event n q e moved)
-ending_by q e moved refusal_102 = Refused
+unfoldable pub ending_by : Request → Event → (moved : ℕ) → Base → Result End Implausible
+ending_by q e moved (base n) = Ok (end_by_event n q e moved)
+ending_by q e moved refusal_102 = Err (record {})
 
 -- what an event with these bytes moved makes of an active request
-unfoldable pub ending : Active → Event → (moved : ℕ) → Ending
-ending a e moved = if implausible a.request e moved then Refused else ending_by a.request e moved (base_status a e moved)
+unfoldable pub ending : Active → Event → (moved : ℕ) → Result End Implausible
+ending a e moved = if implausible a.request e moved then Err (record {}) else ending_by a.request e moved (base_status a e moved)
 
 -- A request that was active and ends with base status other than 01h freezes its unit.
 unfoldable pub freeze_after : (status : ℕ) → Freeze → Freeze
@@ -160,14 +160,14 @@ ended_active q e b =
 
 -- ---- the call: the adapter reports an event on a ticket, with the bytes moved
 
-unfoldable pub reported_by : Board → Request → Ending → Stepped
-reported_by b q Refused = says b (refused 102)
-reported_by b q (Ended e) = says (ended_active q e (with_active (without ticket_of_active q.ticket b.active) b)) done
+unfoldable pub reported_by : Board → Request → Result End Implausible → Stepped
+reported_by b q (Err why) = says b (refused 102)
+reported_by b q (Ok e) = says (ended_active q e (with_active (without ticket_of_active q.ticket b.active) b)) done
 
 -- 101 before 102.
 unfoldable pub reported : Board → Event → (moved : ℕ) → Option Active → Stepped
-reported b e moved none = says b (refused 101)
-reported b e moved (some a) = reported_by b a.request (ending a e moved)
+reported b e moved None = says b (refused 101)
+reported b e moved (Some a) = reported_by b a.request (ending a e moved)
 
 unfoldable pub reporting : Board → Ticket → Event → (moved : ℕ) → Stepped
 reporting b t e moved = reported b e moved (find ticket_of_active t b.active)

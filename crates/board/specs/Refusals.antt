@@ -1,7 +1,6 @@
 -- When the desk says no: exactly when, and what a refusal does. proofs/Refusals.antt proves it. Assumes nothing.
-use Rattle.std.specs.Prelude.{◌≡◌, true, List, [], ◌∷◌, ℕ, ◌≤◌}
-use Rattle.std.proofs.Math.Option.{none, some}
-use Rattle.board.specs.Types.{Ticket, Unit, Active, Finished, Event, Refused}
+use Rattle.std.specs.Prelude.{◌≡◌, true, List, [], ◌∷◌, ℕ, ◌≤◌, Err, None, Some}
+use Rattle.board.specs.Types.{Ticket, Unit, Active, Finished, Event}
 use Rattle.board.specs.Plain.{◌=?◌, any}
 use Rattle.board.specs.Board.{units, find, ticket_of_active, Board, all_waiting}
 use Rattle.board.specs.Block.{with_status}
@@ -15,11 +14,11 @@ pub data No (b : Board) : Call → ℕ → Type 0 where
   -- 05h, 06h, 07h, 15h, 16h: taking in, as listed
   as_listed : (s : List ℕ) (n : ℕ) → verdict b s ≡ refuse n → No b (take_in s) n
   -- 03h: abort: finished or unknown ticket
-  finished_or_unknown : (t : Ticket) → find (λ q. q.ticket) t (all_waiting b) ≡ none → find ticket_of_active t b.active ≡ none → No b (abort t) 0x03
+  finished_or_unknown : (t : Ticket) → find (λ q. q.ticket) t (all_waiting b) ≡ None → find ticket_of_active t b.active ≡ None → No b (abort t) 0x03
   -- 101: event: ticket isn't active
-  not_active : (t : Ticket) (e : Event) (moved : ℕ) → find ticket_of_active t b.active ≡ none → No b (event t e moved) 101
+  not_active : (t : Ticket) (e : Event) (moved : ℕ) → find ticket_of_active t b.active ≡ None → No b (event t e moved) 101
   -- 102: event: bytes moved above 7FFFFFFFh; sense looked at with more bytes than asked; abort done with neither mark
-  implausible : (t : Ticket) (e : Event) (moved : ℕ) (a : Active) → find ticket_of_active t b.active ≡ some a → ending a e moved ≡ Refused → No b (event t e moved) 102
+  implausible : (t : Ticket) (e : Event) (moved : ℕ) (a : Active) → find ticket_of_active t b.active ≡ Some a → ending a e moved ≡ Err (record {}) → No b (event t e moved) 102
   -- 103: freeze, release: unit above 63
   freeze_above_63 : (u : Unit) → units ≤ u.0 → No b (freeze u) 103
   release_above_63 : (u : Unit) → units ≤ u.0 → No b (release u) 103

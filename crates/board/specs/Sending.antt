@@ -1,6 +1,6 @@
 -- Sending. Assumes nothing.
-use Rattle.std.specs.Prelude.{Bool, true, false, not, ◌&&◌, List, [], ◌∷◌, ◌++◌, ℕ, zero, suc, ◌+◌, ◌%◌, length, if◌then◌else◌}
-use Rattle.board.specs.Types.{Unit, Request, Active, Rotation, Found, Nobody}
+use Rattle.std.specs.Prelude.{Bool, true, false, not, ◌&&◌, List, [], ◌∷◌, ◌++◌, ℕ, zero, suc, ◌+◌, ◌%◌, Option, Some, None, length, if◌then◌else◌}
+use Rattle.board.specs.Types.{Unit, Request, Active, Found}
 use Rattle.board.specs.Plain.{◌≤?◌, any}
 use Rattle.board.specs.Board.{the_unit, same_unit, units, most_active, Board, frozen, with_waiting, with_active, with_mark}
 use Rattle.board.specs.Answers.{sent, nothing, Stepped, says}
@@ -22,11 +22,14 @@ eligible b u = waits (b.waiting u) && not (frozen b u) && not (busy u b.active)
 abbrev pub after : (mark : Unit) → ℕ → Unit
 after mark n = the_unit ((mark.0 + n) % units)
 
+abbrev pub found : Unit → (looked : ℕ) → Found
+found u n = record { unit = u; looked = n }
+
 -- Look at `left` units, from the n-th after the mark on, and stop at the first eligible one, with how many units were
 -- looked at.
-unfoldable pub rotation : (Unit → Bool) → (mark : Unit) → (left n : ℕ) → Rotation
-rotation able mark zero n = Nobody
-rotation able mark (suc left) n = if able (after mark n) then Found (after mark n) n else rotation able mark left (suc n)
+unfoldable pub rotation : (Unit → Bool) → (mark : Unit) → (left n : ℕ) → Option Found
+rotation able mark zero n = None
+rotation able mark (suc left) n = if able (after mark n) then Some (found (after mark n) n) else rotation able mark left (suc n)
 
 -- The unit's first waiting request becomes active, its start is the clock, the mark becomes that unit.
 abbrev pub sent_from : Unit → Request → (more : List Request) → Board → Board
@@ -40,9 +43,9 @@ sent_first b u looked [] = says b (nothing looked)
 sent_first b u looked (q ∷ more) = says (sent_from u q more b) (sent q.ticket u q.cdb looked)
 
 -- If none is eligible: "nothing", looked at 64, board unchanged.
-unfoldable pub sent_by : Board → Rotation → Stepped
-sent_by b Nobody = says b (nothing units)
-sent_by b (Found u looked) = sent_first b u looked (b.waiting u)
+unfoldable pub sent_by : Board → Option Found → Stepped
+sent_by b None = says b (nothing units)
+sent_by b (Some x) = sent_first b x.unit x.looked (b.waiting x.unit)
 
 -- With 8 active the answer is "nothing", looked at 0, board unchanged. Otherwise look at units from mark + 1 round to the
 -- mark itself.

@@ -1,34 +1,34 @@
 // The kinds of thing that document 01 speaks of, declared once: the definitions in specs/ and the code of the crates
-// above use the same types. In document 01's order. There is no code here but what numbers name: a unit's number, an event's
-// code, a refusal's number.
+// above use the same types. In document 01's order. There is no code here but conversions: a unit from its number, an event
+// from its code, a refusal to its number.
 #![tactic(auto)]
 
 ghost use Rattle.std.specs.Prelude.{◌≡◌, min};
-ghost use Rattle.board.specs.Answers.{number};
+ghost use Rattle.board.specs.Answers.{number, abort_number, event_number, unit_number, hand_back_number};
 ghost use Rattle.board.specs.Ending.{event_named};
+ghost use Rattle.board.specs.declared.Unreported.TheVariants as unreported;
 
 // ---- what the board holds
 
 // Ticket, place and unit are three kinds of number that must never be taken for one another. (A place is how the code
 // stores a request; it comes with the code.)
-#[derive(Clone, Copy)]
+#[derive(Clone, Copy, Debug, PartialEq, Eq)]
 pub struct Ticket(pub u32);
 
 // Target x 8 + LUN, 0 to 63.
-#[derive(Clone, Copy)]
+#[derive(Clone, Copy, Debug, PartialEq, Eq)]
 pub struct Unit(pub u8);
 
 // A unit by any number: one above 255 is never cut to 8 bits. (255 is no unit either.)
-pub fn unit_numbered(n: u32) -> Unit
-    ensures { result.0 ≡ min n 255 }
-{
-    if n < 255 {
-        return Unit(n as u8);
+impl From<u32> for Unit {
+    ghost from_gives = { λ n u. u.0 ≡ min n 255 };
+
+    fn from(n: u32) -> Unit {
+        Unit(n.min(255) as u8)
     }
-    Unit(255)
 }
 
-// The 12 CDB bytes as three little-endian words, since an enum (a send's answer) can't hold an array.
+// The 12 CDB bytes as three little-endian words, as the definitions have them.
 #[derive(Clone, Copy)]
 pub struct Cdb {
     pub first: u32,
@@ -84,11 +84,11 @@ pub struct Finished {
 
 // ---- sending
 
-// What the rotation finds: the first eligible unit with how many units were looked at, or none.
+// What the rotation finds, if any unit is eligible: the first that is, with how many units were looked at.
 #[derive(Clone, Copy)]
-pub enum Rotation {
-    Found { unit: Unit, looked: u8 },
-    Nobody,
+pub struct Found {
+    pub unit: Unit,
+    pub looked: u8,
 }
 
 // ---- how a request ends
@@ -113,34 +113,27 @@ pub enum Event {
     Complete { status: u8, sense: Sense },
 }
 
-// What a code names: an event that has a status of its own, or none.
-#[derive(Clone, Copy)]
-pub enum Coded {
-    Names(Event),
-    Nothing,
-}
+// A code that no event has.
+#[derive(Clone, Copy, Debug, PartialEq, Eq)]
+pub struct NoSuchEvent;
 
-// The event that a code names.
-#[tactic(auto, unfolding(crate::specs::Ending::event_named))]
-pub fn event_named(code: u32) -> Coded
-    ensures { result ≡ event_named code }
-{
-    if code == 0x0A {
-        return Coded::Names(Event::SelectionTimeout);
+// The event that a code names, where it has a status of its own.
+impl TryFrom<u32> for Event {
+    type Error = NoSuchEvent;
+
+    ghost try_from_gives = { λ code r. r ≡ event_named code };
+
+    #[tactic(auto, unfolding(crate::specs::Ending::event_named))]
+    fn try_from(code: u32) -> Result<Event, NoSuchEvent> {
+        match code {
+            0x0A => Ok(Event::SelectionTimeout),
+            0x0F => Ok(Event::Parity),
+            0x13 => Ok(Event::BusFree),
+            0x14 => Ok(Event::Phase),
+            0x19 => Ok(Event::AdapterError),
+            _ => Err(NoSuchEvent),
+        }
     }
-    if code == 0x0F {
-        return Coded::Names(Event::Parity);
-    }
-    if code == 0x13 {
-        return Coded::Names(Event::BusFree);
-    }
-    if code == 0x14 {
-        return Coded::Names(Event::Phase);
-    }
-    if code == 0x19 {
-        return Coded::Names(Event::AdapterError);
-    }
-    Coded::Nothing
 }
 
 // What an end is made of, before it is known whether its unit is frozen: the base status, the SCSI status, whether sense
@@ -154,17 +147,14 @@ pub struct End {
     pub residual: i32,
 }
 
-// What an event makes of an active request: its end, or refusal 102.
-#[derive(Clone, Copy)]
-pub enum Ending {
-    Ended(End),
-    Refused,
-}
+// An event that can't be: refusal 102. What an event makes of an active request is its end, or this.
+#[derive(Clone, Copy, Debug, PartialEq, Eq)]
+pub struct Implausible;
 
-// ---- the answers, one enum for each call that has more than one kind of answer
+// ---- the answers: a Result for each call that can be refused, with the refusals that it has; and their numbers
 
-// Why taking in says no, by the names that source document 000 (Table 5) has for the numbers.
-#[derive(Clone, Copy)]
+// Why taking in says no, by the names that source document 000 (Table 5) has for the numbers. Taken in, a request has a ticket.
+#[derive(Clone, Copy, Debug, PartialEq, Eq)]
 pub enum Refusal {
     CamBusy,
     InvalidRequest,
@@ -173,78 +163,115 @@ pub enum Refusal {
     CannotProvide,
 }
 
-// The number of a refusal.
-pub fn number_of(why: Refusal) -> u8
-    ensures { result ≡ number why }
-{
-    match why {
-        Refusal::CamBusy => 0x05,
-        Refusal::InvalidRequest => 0x06,
-        Refusal::InvalidPath => 0x07,
-        Refusal::LengthInadequate => 0x15,
-        Refusal::CannotProvide => 0x16,
+impl From<Refusal> for u8 {
+    ghost from_gives = { λ why n. n ≡ number why };
+
+    fn from(why: Refusal) -> u8 {
+        match why {
+            Refusal::CamBusy => 0x05,
+            Refusal::InvalidRequest => 0x06,
+            Refusal::InvalidPath => 0x07,
+            Refusal::LengthInadequate => 0x15,
+            Refusal::CannotProvide => 0x16,
+        }
     }
 }
 
-// Taking a request in.
+// A request that is sent.
 #[derive(Clone, Copy)]
-pub enum TakingIn {
-    Taken(Ticket),
-    Refused(Refusal),
+pub struct Sent {
+    pub ticket: Ticket,
+    pub unit: Unit,
+    pub cdb: Cdb,
 }
 
-// Sending.
+// Sending: what is sent, if anything, and how many units were looked at.
 #[derive(Clone, Copy)]
-pub enum Sending {
-    Sent {
-        ticket: Ticket,
-        unit: Unit,
-        cdb: Cdb,
-        looked: u8,
-    },
-    Nothing {
-        looked: u8,
-    },
+pub struct Sending {
+    pub sent: Option<Sent>,
+    pub looked: u8,
 }
 
-// An event on a ticket: the request ended; 101; or 102, an event that can't be.
-#[derive(Clone, Copy)]
-pub enum Reporting {
-    Ended,
+// Why an event on a ticket ends nothing: 101, no active request has the ticket; 102, an event that can't be.
+#[derive(Clone, Copy, Debug, PartialEq, Eq)]
+pub enum Unreported {
     NotActive,
     Implausible,
 }
 
-// Abort.
-#[derive(Clone, Copy)]
-pub enum Aborting {
-    Done,
-    UnableToAbort,
+impl From<Implausible> for Unreported {
+    ghost from_gives = { λ _ why. why ≡ unreported.Implausible };
+
+    fn from(_: Implausible) -> Unreported {
+        Unreported::Implausible
+    }
 }
 
-// Freeze, release: 1 if the unit was frozen before, else 0.
-#[derive(Clone, Copy)]
-pub enum Freezing {
-    Before(u8),
-    NoSuchUnit,
+impl From<Unreported> for u8 {
+    ghost from_gives = { λ why n. n ≡ event_number why };
+
+    fn from(why: Unreported) -> u8 {
+        match why {
+            Unreported::NotActive => 101,
+            Unreported::Implausible => 102,
+        }
+    }
 }
 
-// A look at the finished line.
-#[derive(Clone, Copy)]
-pub enum Looking {
-    First {
-        ticket: Ticket,
-        address: u32,
-        callback: u32,
-        wanted: bool,
-    },
-    Empty,
+// Why an abort says no: the ticket's request is finished, or there is none.
+#[derive(Clone, Copy, Debug, PartialEq, Eq)]
+pub struct UnableToAbort;
+
+impl From<UnableToAbort> for u8 {
+    ghost from_gives = { λ why n. n ≡ abort_number why };
+
+    fn from(_: UnableToAbort) -> u8 {
+        0x03
+    }
 }
 
-// Hand back.
+// Why a freeze or a release says no: a unit above 63. Else it answers whether the unit was frozen before.
+#[derive(Clone, Copy, Debug, PartialEq, Eq)]
+pub struct NoSuchUnit;
+
+impl From<NoSuchUnit> for u8 {
+    ghost from_gives = { λ why n. n ≡ unit_number why };
+
+    fn from(_: NoSuchUnit) -> u8 {
+        103
+    }
+}
+
+// What a look at the finished line sees, unless it is empty: its first request.
 #[derive(Clone, Copy)]
-pub enum HandingBack {
-    Handed { ticket: Ticket, told: Told },
-    Empty,
+pub struct First {
+    pub ticket: Ticket,
+    pub address: u32,
+    pub callback: u32,
+    pub wanted: bool,
+}
+
+// What is handed back: the ticket, and what its block was told.
+#[derive(Clone, Copy)]
+pub struct Handed {
+    pub ticket: Ticket,
+    pub told: Told,
+}
+
+// Why nothing is handed back: 104, the finished line is empty; 105, the block is not that of its first request.
+#[derive(Clone, Copy, Debug, PartialEq, Eq)]
+pub enum NotHanded {
+    LineEmpty,
     NotItsBlock,
+}
+
+impl From<NotHanded> for u8 {
+    ghost from_gives = { λ why n. n ≡ hand_back_number why };
+
+    fn from(why: NotHanded) -> u8 {
+        match why {
+            NotHanded::LineEmpty => 104,
+            NotHanded::NotItsBlock => 105,
+        }
+    }
 }
