@@ -1,13 +1,13 @@
 -- One record of the log: what a line says, and what reading one promises. Assumes nothing.
-use Rattle.std.specs.Prelude.{List, [], ◌∷◌, ℕ, ◌≤◌, ◌≡◌, Option, Some, None, Result, Ok, Err, option_and_then, length, if◌then◌else◌}
+use Rattle.std.specs.Prelude.{List, [], ◌∷◌, ℕ, ◌≤◌, ◌≡◌, Option, Some, None, option_and_then, length, if◌then◌else◌}
+use Rattle.std.specs.Option.{option_map}
+use Rattle.std.specs.Result.{result_ok}
 use Rattle.std.proofs.lemmas.List.Edits.{sets}
 use Rattle.board.specs.Plain.{◌=?◌, ◌≤?◌}
 use Rattle.board.specs.Board.{the_ticket}
 use Rattle.board.specs.declared.Ticket.{Ticket}
 use Rattle.board.specs.declared.Event.{Event}
 use Rattle.board.specs.declared.Event.TheVariants.{AbortDone, Complete}
-use Rattle.board.specs.declared.Coded.{Coded}
-use Rattle.board.specs.declared.Coded.TheVariants.{Names, Nothing}
 use Rattle.board.specs.Ending.{event_named}
 use Rattle.board.specs.declared.Sense.{Sense}
 use Rattle.board.specs.declared.Sense.TheVariants as sensed
@@ -16,7 +16,6 @@ use Rattle.lines.specs.declared.Kind.{Kind}
 use Rattle.lines.specs.declared.Kind.TheVariants.{Plain, Completed}
 use Rattle.lines.specs.declared.Line.{Line}
 use Rattle.lines.specs.declared.Line.TheVariants as line
-use Rattle.lines.specs.declared.Malformed.{Malformed}
 
 -- A record; the last is a line that is not of the form. (A unit is any number here: the desk refuses those above 63.)
 pub data Record : Type 0 where
@@ -31,12 +30,8 @@ pub data Record : Type 0 where
 -- ---- single fields
 
 -- what a code names: selection timeout, parity, bus free, phase, adapter error
-abbrev pub plain_kind : Coded → Option Kind
-plain_kind (Names e) = Some (Plain e)
-plain_kind Nothing = None
-
 abbrev pub named : ℕ → Option Kind
-named n = plain_kind (event_named n)
+named n = option_map Plain (result_ok (event_named n))
 
 -- the kind of an event: K for abort done, C for complete, or a code
 unfoldable pub kind : List ℕ → Option Kind
@@ -126,17 +121,17 @@ parse line = if length line ≤? 400 then record_of (fields line) else malformed
 
 -- ---- the same, as the code hands it over: a block by how many bytes it has, which stand at the start of the lent array
 
-abbrev pub told : Record → Result Line Malformed
-told (submit block) = Ok (line.Submit (length block))
-told send = Ok line.Send
-told (event t e n) = Ok (line.Event t e n)
-told (abort t) = Ok (line.Abort t)
-told (freeze u) = Ok (line.Freeze u)
-told (release u) = Ok (line.Release u)
-told tick = Ok line.Tick
-told reset = Ok line.Reset
-told hand_back = Ok line.HandBack
-told malformed = Err (record { })
+abbrev pub told : Record → Option Line
+told (submit block) = Some (line.Submit (length block))
+told send = Some line.Send
+told (event t e n) = Some (line.Event t e n)
+told (abort t) = Some (line.Abort t)
+told (freeze u) = Some (line.Freeze u)
+told (release u) = Some (line.Release u)
+told tick = Some line.Tick
+told reset = Some line.Reset
+told hand_back = Some line.HandBack
+told malformed = None
 
 -- the lent array afterwards
 abbrev pub kept : Record → List ℕ → List ℕ
@@ -144,13 +139,13 @@ kept (submit block) lent = sets lent 0 block
 kept _ lent = lent
 
 -- a block has room in the lent array
-abbrev pub room : Result Line Malformed → Type 0
-room (Ok (line.Submit n)) = n ≤ 200
+abbrev pub room : Option Line → Type 0
+room (Some (line.Submit n)) = n ≤ 200
 room _ = Unit
 
 -- What reading a line promises: what is handed over, the lent array afterwards, and that a block has room there. (The last
 -- follows where r is what a line says, since a line has at most 400 bytes; it is here for the caller.)
-pub record Parsed (r : Record) (lent lent' : List ℕ) (a : Result Line Malformed) : Type 0 where
+pub record Parsed (r : Record) (lent lent' : List ℕ) (a : Option Line) : Type 0 where
   pub says : a ≡ told r
   pub array : lent' ≡ kept r lent
   pub fits : room a

@@ -1,5 +1,5 @@
 -- The text of a line: its fields, decimal numbers, and hex digits. A byte is a number, and these are ASCII. Assumes nothing.
-use Rattle.std.specs.Prelude.{Bool, true, ◌&&◌, ◌||◌, List, [], ◌∷◌, ℕ, ◌+◌, ◌*◌, ◌-◌, ◌%◌, Option, Some, None, length, if◌then◌else◌}
+use Rattle.std.specs.Prelude.{Bool, true, ◌&&◌, ◌||◌, List, [], ◌∷◌, ℕ, ◌+◌, ◌*◌, ◌-◌, ◌%◌, Option, Some, None, option_and_then, length, if◌then◌else◌}
 use Rattle.board.specs.Plain.{◌=?◌, ◌≤?◌}
 
 -- ---- fields, parted by tabs
@@ -23,11 +23,14 @@ fields (c ∷ cs) = if c =? tab then [] ∷ fields cs else onto c (fields cs)
 abbrev pub is_digit : ℕ → Bool
 is_digit c = 48 ≤? c && c ≤? 57
 
--- the number with n's digits and then these; none at a byte that is no digit, and none above 4294967295
+-- the number with n's digits and then this one; none at a byte that is no digit, and none above 4294967295
+abbrev pub with_digit : ℕ → ℕ → Option ℕ
+with_digit n c = if is_digit c && (n * 10 + (c - 48) ≤? 4294967295) then Some (n * 10 + (c - 48)) else None
+
+-- the number with n's digits and then these
 unfoldable pub more : ℕ → List ℕ → Option ℕ
 more n [] = Some n
-more n (c ∷ cs) =
-    if is_digit c && (n * 10 + (c - 48) ≤? 4294967295) then more (n * 10 + (c - 48)) cs else None
+more n (c ∷ cs) = option_and_then (λ m. more m cs) (with_digit n c)
 
 -- a zero stands alone
 unfoldable pub number : List ℕ → Option ℕ

@@ -1,13 +1,13 @@
 // One record of the replay's log: a line's bytes to a record. The types, then single fields, events, blocks, the line.
 #![tactic(auto)]
 
-ghost use Rattle.std.specs.Prelude.{◌≡◌, true, ◌∷◌, [], ◌+◌, ◌*◌, ◌≤◌, ◌<◌, length, MatchOption};
+ghost use Rattle.std.specs.Prelude.{◌≡◌, true, ◌∷◌, [], ◌+◌, ◌*◌, ◌≤◌, ◌<◌, ◌==◌, length, position, MatchOption};
 ghost use Rattle.std.specs.Result.{result_ok};
 ghost use Rattle.std.proofs.lemmas.List.Edits.{sets};
-ghost use Rattle.lines.specs.Text.{fields, is_hex, hex_value, number, more, all_hex, bytes, code};
-ghost use Rattle.lines.specs.Record.{told, kept, parse, record_of, Parsed, by_letter, of_block, of_number, numbered, event_of, kind, sense};
+ghost use Rattle.lines.specs.Text.{fields, is_hex, hex_value, number, with_digit, more, all_hex, bytes, code};
+ghost use Rattle.lines.specs.Record.{told, parse, record_of, Parsed, by_letter, of_block, of_number, numbered, event_of, kind, named, sense};
 
-use board::{Coded, Event, Sense, Ticket};
+use board::{Event, Sense, Ticket};
 
 // A record. The bytes of a submitted block stand at the start of the lent array; here is how many they are. A unit may be
 // any number, since the desk is to refuse those above 63.
@@ -37,34 +37,50 @@ enum Kind {
 
 // ---- single fields
 
+// Where the first tab is.
+fn first_tab(s: &[u8]) -> Option<usize>
+    ensures { result ≡ position (λ c. c == 9) s.now }
+{
+    s.iter().position(|c| *c == b'\t')
+}
+
 // The first field, and what follows its tab.
 fn split(s: &[u8]) -> Option<(&[u8], &[u8])>
     ensures { MatchOption result (fields s.now ≡ s.now ∷ []) (λ p. fields s.now ≡ p.0.now ∷ fields p.1.now) }
 {
-    let tab = s.iter().position(|c| *c == b'\t')?;
+    let tab = first_tab(s)?;
     Some((&s[..tab], &s[tab + 1..]))
+}
+
+// The number with n's digits and then this one.
+fn with_digit(n: u32, c: u8) -> Option<u32>
+    ensures { result ≡ with_digit n c }
+{
+    if !c.is_ascii_digit() {
+        return None;
+    }
+    n.checked_mul(10)?.checked_add(u32::from(c - b'0'))
 }
 
 // The number that these decimal digits make; leading zeros are not looked for.
 fn digits(s: &[u8]) -> Option<u32>
     ensures { result ≡ more 0 s.now }
 {
-    let mut n: u32 = 0;
+    let mut n = 0;
     for c in s {
-        if !c.is_ascii_digit() {
-            return None;
-        }
-        n = n.checked_mul(10)?.checked_add(u32::from(*c - b'0'))?;
+        n = with_digit(n, *c)?;
     }
     Some(n)
 }
 
 // A decimal number, 0 to 4294967295, no leading zeros.
+#[tactic(auto, using(crate::proofs::Texts::number_none, crate::proofs::Texts::number_lead, crate::proofs::Texts::number_digits))]
 fn read_number(s: &[u8]) -> Option<u32>
     ensures { result ≡ number s.now }
 {
     match s {
-        [] | [b'0', _, ..] => None,
+        [] => None,
+        [b'0', _, ..] => None,
         _ => digits(s),
     }
 }
@@ -107,21 +123,27 @@ fn read_code(s: &[u8]) -> Option<u8>
 
 // ---- an event
 
+// The kind that a code names.
+fn named(code: u8) -> Option<Kind>
+    ensures { result ≡ named code }
+{
+    Event::try_from(u32::from(code)).ok().map(Kind::Plain)
+}
+
 // The kind of an event: K, C or a code.
+#[tactic(auto, using(crate::proofs::Texts::kind_k, crate::proofs::Texts::kind_c, crate::proofs::Texts::kind_code))]
 fn read_kind(s: &[u8]) -> Option<Kind>
     ensures { result ≡ kind s.now }
 {
     match s {
         [b'K'] => Some(Kind::Plain(Event::AbortDone)),
         [b'C'] => Some(Kind::Completed),
-        _ => match board::event_named(u32::from(read_code(s)?)) {
-            Coded::Names(e) => Some(Kind::Plain(e)),
-            Coded::Nothing => None,
-        },
+        _ => read_code(s).and_then(named),
     }
 }
 
 // What became of the sense: X failed, - none, or how many bytes came.
+#[tactic(auto, using(crate::proofs::Texts::sense_x, crate::proofs::Texts::sense_dash, crate::proofs::Texts::sense_number), unfolding(crate::specs::Record::byte_sense))]
 fn read_sense(s: &[u8]) -> Option<Sense>
     ensures { result ≡ sense s.now }
 {
@@ -134,7 +156,7 @@ fn read_sense(s: &[u8]) -> Option<Sense>
 
 // What follows the letter E and a tab.
 fn read_event(s: &[u8]) -> Option<Line>
-    ensures { result ≡ result_ok (told (event_of (fields s.now))) }
+    ensures { result ≡ told (event_of (fields s.now)) }
 {
     let (ticket, s) = split(s)?;
     let (kind, s) = split(s)?;
@@ -154,10 +176,15 @@ fn read_event(s: &[u8]) -> Option<Line>
 
 // ---- a block
 
+// Whether all are hex digits. With no branch in it, so that a whole block is looked at many digits at a time.
 fn all_hex(s: &[u8]) -> bool
     ensures { result ≡ all_hex s.now }
 {
-    s.iter().fold(true, |ok, c| ok & is_hex(*c))
+    let mut ok = true;
+    for c in s {
+        ok &= is_hex(*c);
+    }
+    ok
 }
 
 // The bytes that these hex digits make, two to a byte, to the start of the lent array.
@@ -173,8 +200,7 @@ fn decode(s: &[u8], block: &mut [u8; 200])
 // What follows the letter S and a tab. All the digits are looked at before any byte is stored.
 fn read_block(s: &[u8], block: &mut [u8; 200]) -> Option<Line>
     requires { length s.now ≤ 400 }
-    ensures says { result ≡ result_ok (told (of_block s.now)) }
-    ensures array { block.new ≡ kept (of_block s.now) block.old }
+    ensures { Parsed (of_block s.now) block.old block.new result }
 {
     if s.len() % 2 != 0 || !all_hex(s) {
         return None;
@@ -188,7 +214,7 @@ fn read_block(s: &[u8], block: &mut [u8; 200]) -> Option<Line>
 // A letter with no field after it.
 #[tactic(auto, unfolding(crate::specs::Record::by_letter, crate::specs::Record::numbered, crate::specs::Record::event_of))]
 fn alone(letter: u8) -> Option<Line>
-    ensures { result ≡ result_ok (told (by_letter letter [])) }
+    ensures { result ≡ told (by_letter letter []) }
 {
     match letter {
         b'N' => Some(Line::Send),
@@ -202,7 +228,7 @@ fn alone(letter: u8) -> Option<Line>
 // A letter with one number after it.
 #[tactic(auto, unfolding(crate::specs::Record::numbered))]
 fn with_number(letter: u8, n: u32) -> Option<Line>
-    ensures { result ≡ result_ok (told (numbered letter n)) }
+    ensures { result ≡ told (numbered letter n) }
 {
     match letter {
         b'A' => Some(Line::Abort(Ticket(n))),
@@ -215,8 +241,7 @@ fn with_number(letter: u8, n: u32) -> Option<Line>
 // A line of at most 400 bytes.
 fn read_line(line: &[u8], block: &mut [u8; 200]) -> Option<Line>
     requires { length line.now ≤ 400 }
-    ensures says { result ≡ result_ok (told (record_of (fields line.now))) }
-    ensures array { block.new ≡ kept (record_of (fields line.now)) block.old }
+    ensures { Parsed (record_of (fields line.now)) block.old block.new result }
 {
     match line {
         [letter] => alone(*letter),
@@ -228,8 +253,9 @@ fn read_line(line: &[u8], block: &mut [u8; 200]) -> Option<Line>
 }
 
 // One line, without its line feed, as a record. The bytes of a block go to the start of the lent array.
+#[tactic(auto, using(crate::proofs::Overlong::parse_long))]
 pub fn parse_line(line: &[u8], block: &mut [u8; 200]) -> Result<Line, Malformed>
-    ensures { Parsed (parse line.now) block.old block.new result }
+    ensures { Parsed (parse line.now) block.old block.new (result_ok result) }
 {
     if 400 < line.len() {
         return Err(Malformed);
