@@ -2,15 +2,16 @@
 use Rattle.std.specs.Prelude.{if◌then◌else◌, Option, Some, None, Result}
 use Rattle.std.specs.Option.{ok_or}
 use Rattle.std.specs.Result.{result_ok}
-use Prim.Native.Nat.{ℕ, ◌+◌, ◌-◌, ◌/◌, ◌%◌, ◌≤◌, ◌<◌}
+use Prim.Native.Nat.{ℕ, ◌-◌, ◌/◌, ◌%◌, ◌≤◌, ◌<◌}
 use mathlib.Core.Path.{◌≡◌, refl, sym, ap, ◌∙◌, subst}
-use mathlib.Core.Bool.{Bool, true, false, ◌&&◌}
+use mathlib.Core.Bool.{Bool, true, false}
 use mathlib.Core.List.{List, [], ◌∷◌}
 use native.Mathlib.Omega.{arith}
 use borrow.Author.Tests.{le-leb, eq-eqb, ne_eqb, eqb-true}
 use lib.ListN.{length, get_or, take, drop, length-drop}
 use lib.Seq.{take_all, sets}
 use lib.Dec.{eqb}
+use Rattle.std.proofs.Math.Bool.{and-false}
 use Rattle.board.specs.Board.{the_ticket}
 use Rattle.board.specs.declared.Event.{Event}
 use Rattle.board.specs.declared.Sense.{Sense}
@@ -115,11 +116,7 @@ module _ (t k : List ℕ) where
 
 block_field : (s : List ℕ) → only of_block (fields s) ≡ of_block s
 unfolding are_bytes
-block_field s = one_field of_block (λ xs h. rw (hex_tab xs h, and_false)) s
-  where
-    and_false : (a : Bool) → (a && false) ≡ false
-    and_false true = refl
-    and_false false = refl
+block_field s = one_field of_block (λ xs h. rw (hex_tab xs h, and-false)) s
 
 none_fields : (r : Record) (s : List ℕ) → none_more r (fields s) ≡ malformed
 none_fields r s = more_fields (none_more r) s (λ f fs. refl)

@@ -1,16 +1,16 @@
 -- Laws of the text of a line, each in the form in which a loop over the bytes asks for it. Assumes nothing.
 use Rattle.std.proofs.lemmas.Bool.{ltb-false}
-use Rattle.std.specs.Prelude.{cond, nat_lt, if◌then◌else◌, Option, Some, None, option_and_then, fold, position}
-use Rattle.std.specs.List.{position_or_len, prefix_len}
+use Rattle.std.proofs.Math.Bool.{and_assoc, and-true, and-false}
+use Rattle.std.specs.Prelude.{cond, nat_lt, if◌then◌else◌, Option, Some, None, option_and_then, position}
+use Rattle.std.specs.List.{position_or_len}
 use Rattle.std.proofs.lemmas.List.Quantifiers.{position-Some}
-use Rattle.std.proofs.lemmas.List.Sums.{prefix_len-le-length, prefix_len_passes}
 use Prim.Native.Nat.{ℕ, zero, suc, ◌+◌, ◌*◌, ◌-◌, ◌/◌, ◌%◌, ◌≤◌, ◌<◌}
 use mathlib.Core.Path.{◌≡◌, refl, sym, ap, ◌∙◌, subst}
 use mathlib.Core.Bool.{Bool, true, false, not, ◌&&◌, ◌||◌}
 use mathlib.Core.List.{List, [], ◌∷◌, ◌++◌}
 use native.Mathlib.Omega.{arith}
 use native.Mathlib.Numerals.{add-one}
-use borrow.Author.Tests.{le-leb, lt-leb, eq-eqb, ne_eqb, eqb-true, leb-false}
+use borrow.Author.Tests.{eq-eqb, ne_eqb, eqb-true}
 use lib.ListN.{length, get_or, set, take, drop, drop_of_length-le, length-drop}
 use lib.Seq.{drop-cons, sets, take_all}
 use lib.Dec.{eqb}
@@ -26,10 +26,6 @@ uncons : (s : List ℕ) (i : ℕ) → i < length s → drop i s ≡ get_or s i 0
 uncons s i h = rw (add-one, drop-cons s i 0)
 
 -- ---- digits
-
-and_false : (a : Bool) → (a && false) ≡ false
-and_false true = refl
-and_false false = refl
 
 pub more_at : (s : List ℕ) (n i : ℕ) → i < length s → more n (drop i s) ≡ option_and_then (λ m. more m (drop (i + 1) s)) (with_digit n (get_or s i 0))
 unfolding more
@@ -131,14 +127,6 @@ fields_one s h = by_cases (nat_lt (position_or_len (λ c. eqb c 9) s) (length s)
 
 -- ---- hex digits
 
-and_assoc : (a b c : Bool) → (a && (b && c)) ≡ ((a && b) && c)
-and_assoc true b c = refl
-and_assoc false b c = refl
-
-and_true : (a : Bool) → (a && true) ≡ a
-and_true true = refl
-and_true false = refl
-
 one : (c : ℕ) (cs : List ℕ) → all_hex (c ∷ cs) ≡ (is_hex c && all_hex cs)
 unfolding all_hex
 one c cs = refl
@@ -147,11 +135,11 @@ pub hex_next : (s : List ℕ) (i : ℕ) (ok h : Bool) → i < length s → h ≡
     → all_hex s ≡ ((ok && h) && all_hex (drop (i + 1) s))
 hex_next s i ok h l e inv =
     inv ∙ ap (λ (x : List ℕ). ok && all_hex x) (uncons s i l) ∙ ap (λ (b : Bool). ok && b) (one (get_or s i 0) (drop (i + 1) s))
-    ∙ and_assoc ok (is_hex (get_or s i 0)) (all_hex (drop (i + 1) s)) ∙ ap (λ (b : Bool). (ok && b) && all_hex (drop (i + 1) s)) (sym e)
+    ∙ sym (and_assoc ok (is_hex (get_or s i 0)) (all_hex (drop (i + 1) s))) ∙ ap (λ (b : Bool). (ok && b) && all_hex (drop (i + 1) s)) (sym e)
 
 pub hex_end : (s : List ℕ) (i : ℕ) (ok : Bool) → length s ≤ i → all_hex s ≡ (ok && all_hex (drop i s)) → ok ≡ all_hex s
 unfolding all_hex
-hex_end s i ok h inv = sym (inv ∙ ap (λ (x : List ℕ). ok && all_hex x) (drop_of_length-le s h) ∙ and_true ok)
+hex_end s i ok h inv = sym (inv ∙ ap (λ (x : List ℕ). ok && all_hex x) (drop_of_length-le s h) ∙ and-true ok)
 
 two_bytes : (a b : ℕ) (l : List ℕ) → bytes (a ∷ b ∷ l) ≡ (hex_value a * 16 + hex_value b) ∷ bytes l
 unfolding bytes
@@ -213,11 +201,11 @@ sense_dash [] h k = absurd (omega arith)
 sense_dash (a ∷ []) h k = rw k
 sense_dash (a ∷ b ∷ s) h k = absurd (omega arith)
 
-pub sense_number : (s : List ℕ) → (length s ≡ 1 → (get_or s 0 0 ≡ 88 → ⊥) × (get_or s 0 0 ≡ 45 → ⊥)) → sense s ≡ option_and_then byte_sense (number s)
+pub sense_number : (s : List ℕ) → (length s ≡ 1 → get_or s 0 0 ≡ 88 → ⊥) → (length s ≡ 1 → get_or s 0 0 ≡ 45 → ⊥) → sense s ≡ option_and_then byte_sense (number s)
 unfolding sense number
-sense_number [] h = refl
-sense_number (a ∷ []) h = rw (ne_eqb a 88 (h refl).0, ne_eqb a 45 (h refl).1)
-sense_number (a ∷ b ∷ s) h = refl
+sense_number [] h k = refl
+sense_number (a ∷ []) h k = rw (ne_eqb a 88 (h refl), ne_eqb a 45 (k refl))
+sense_number (a ∷ b ∷ s) h k = refl
 
 -- ---- storing the bytes of a block
 
@@ -277,7 +265,7 @@ one_field g h xs = only_fields g xs ∙ pick_tab (has_tab xs) (g xs) (h xs)
 hex_tab_step : (c : ℕ) (cs : List ℕ) (b : Bool) → eqb c 9 ≡ b → (has_tab cs ≡ true → all_hex cs ≡ false) → (if b then true else has_tab cs) ≡ true → all_hex (c ∷ cs) ≡ false
 unfolding all_hex
 hex_tab_step c cs true e ih h = rw (eqb-true c 9 e)
-hex_tab_step c cs false e ih h = rw (ih h, and_false)
+hex_tab_step c cs false e ih h = rw (ih h, and-false)
 
 pub hex_tab : (xs : List ℕ) → has_tab xs ≡ true → all_hex xs ≡ false
 unfolding has_tab

@@ -119,7 +119,8 @@ record_of ((c ∷ d ∷ cs) ∷ fs) = malformed
 unfoldable pub parse : List ℕ → Record
 parse line = if length line ≤? 400 then record_of (fields line) else malformed
 
--- ---- the same, as the code hands it over: a block by how many bytes it has, which stand at the start of the lent array
+-- ---- the same, as the code hands it over: a block by how many bytes it has, which stand at the start of the lent array;
+-- nothing where the line is not of the form
 
 abbrev pub told : Record → Option Line
 told (submit block) = Some (line.Submit (length block))

@@ -1,6 +1,4 @@
 -- `lines::read_block` meets its contract. Assumes nothing.
-use mathlib.Core.Path.{sym, ◌∙◌}
-use native.Mathlib.Omega.{arith}
 use Rattle.lines.proofs.Records.{block_odd, block_bad, block_good, block_record, no_record}
 use Rattle.lines.proofs.read_block.Goals as goal
 use Rattle.lines.proofs.read_block.Goals.{then-s-ne0-via-then-s-ne0, then-s-ne0-via-else-s-ne0+then-not-all_hex}

@@ -1,5 +1,5 @@
 -- `lines::read_event` meets its contract. Assumes nothing.
-use mathlib.Core.Path.{◌≡◌, sym, ap, ◌∙◌, refl}
+use mathlib.Core.Path.{sym, ap, ◌∙◌, refl}
 use Rattle.std.specs.Prelude.{Some}
 use Rattle.lines.proofs.Records.{after, event_is, event_one, event_two, no_ticket, no_kind, plain, three, four, five}
 use Rattle.lines.proofs.read_event.Goals as goal

@@ -1,9 +1,7 @@
 -- `lines::split` meets its contract. Assumes nothing.
-use mathlib.Core.Path.{sym, subst, ap, ◌∙◌, ◌≡◌}
-use mathlib.Core.List.{List, ◌∷◌, []}
-use Prim.Native.Nat.{ℕ}
+use mathlib.Core.Path.{sym, subst, ◌≡◌}
+use mathlib.Core.List.{◌∷◌, []}
 use Rattle.std.specs.Prelude.{MatchOption}
-use Rattle.std.proofs.lemmas.Option.{MatchOption-at_none}
 use Rattle.lines.specs.Text.{fields}
 use Rattle.lines.proofs.Texts.{fields_one, fields_split}
 use Rattle.lines.proofs.split.Goals as goal
