@@ -22,12 +22,12 @@ use Rattle.lines.specs.declared.Line.TheVariants as line
 use Rattle.lines.specs.declared.Malformed.{Malformed}
 use Rattle.lines.specs.declared.Kind.{Kind}
 use Rattle.lines.specs.declared.Kind.TheVariants.{Plain, Completed}
-use Rattle.lines.proofs.Texts.{ahead, cut_start, fields_other, one_field, hex_tab, number_tab, sense_tab, same, length_bytes}
+use Rattle.lines.proofs.Texts.{ahead, fields_start, fields_other, one_field, hex_tab, number_tab, sense_tab, same, length_bytes}
 
 -- there is a first field
 more_fields : (g : List (List ℕ) → Record) (s : List ℕ) → ((f : List ℕ) (fs : List (List ℕ)) → g (f ∷ fs) ≡ malformed) → g (fields s) ≡ malformed
 unfolding ahead
-more_fields g s h = ap g (cut_start s) ∙ at_first (fields s)
+more_fields g s h = ap g (fields_start s) ∙ at_first (fields s)
   where
     at_first : (fs : List (List ℕ)) → g (ahead [] fs) ≡ malformed
     at_first [] = h [] []
@@ -152,29 +152,6 @@ letter_number c s x h i j =
         → (if b then none_more r (fields s) else x) ≡ of_number (numbered c) (number s)
     pick true r x k e = none_fields r s ∙ sym (k refl)
     pick false r x k e = e
-
-pub alone_none : (c : ℕ) → (c ≡ 78 → ⊥) → (c ≡ 84 → ⊥) → (c ≡ 66 → ⊥) → (c ≡ 72 → ⊥) → by_letter c [] ≡ malformed
-unfolding by_letter event_of
-alone_none c h i j k = rw (ne_eqb c 78 h, ne_eqb c 84 i, ne_eqb c 66 j, ne_eqb c 72 k) (simp same)
-
-pub alone_is : (c n : ℕ) → c ≡ n → by_letter c [] ≡ by_letter n []
-alone_is c n h = ap (λ (x : ℕ). by_letter x []) h
-
-pub alone_send : by_letter 78 [] ≡ send
-unfolding by_letter
-alone_send = refl
-
-pub alone_tick : by_letter 84 [] ≡ tick
-unfolding by_letter
-alone_tick = refl
-
-pub alone_reset : by_letter 66 [] ≡ reset
-unfolding by_letter
-alone_reset = refl
-
-pub alone_hand_back : by_letter 72 [] ≡ hand_back
-unfolding by_letter
-alone_hand_back = refl
 
 -- ---- the block
 

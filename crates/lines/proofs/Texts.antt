@@ -1,5 +1,6 @@
 -- Laws of the text of a line, each in the form in which a loop over the bytes asks for it. Assumes nothing.
 use Rattle.std.proofs.lemmas.Bool.{ltb-false}
+use Rattle.std.proofs.lemmas.List.{drop_more}
 use Rattle.std.proofs.Math.Bool.{and_assoc, and-true, and-false}
 use Rattle.std.specs.Prelude.{cond, nat_lt, if◌then◌else◌, Option, Some, None, option_and_then, position}
 use Rattle.std.specs.List.{position_or_len}
@@ -22,14 +23,11 @@ use Rattle.board.specs.declared.Event.TheVariants.{AbortDone}
 use Rattle.lines.specs.declared.Kind.TheVariants.{Plain, Completed}
 use Rattle.board.specs.declared.Sense.TheVariants as sensed
 
-uncons : (s : List ℕ) (i : ℕ) → i < length s → drop i s ≡ get_or s i 0 ∷ drop (i + 1) s
-uncons s i h = rw (add-one, drop-cons s i 0)
-
 -- ---- digits
 
 pub more_at : (s : List ℕ) (n i : ℕ) → i < length s → more n (drop i s) ≡ option_and_then (λ m. more m (drop (i + 1) s)) (with_digit n (get_or s i 0))
 unfolding more
-more_at s n i h = rw (uncons s i h)
+more_at s n i h = rw (drop_more s i 0 h)
 
 pub more_end : (s : List ℕ) (n i : ℕ) → length s ≤ i → more n (drop i s) ≡ Some n
 unfolding more
@@ -70,10 +68,10 @@ unfolding ahead
 pick_whole true c gs fs = refl
 pick_whole false c gs fs = onto_whole c fs
 
-pub cut_start : (s : List ℕ) → fields s ≡ ahead [] (fields s)
+pub fields_start : (s : List ℕ) → fields s ≡ ahead [] (fields s)
 unfolding fields ahead
-cut_start [] = refl
-cut_start (c ∷ cs) = pick_whole (eqb c 9) c (fields cs) (fields cs)
+fields_start [] = refl
+fields_start (c ∷ cs) = pick_whole (eqb c 9) c (fields cs) (fields cs)
 
 fields_tab : (cs : List ℕ) → fields (9 ∷ cs) ≡ [] ∷ fields cs
 unfolding fields
@@ -134,7 +132,7 @@ one c cs = refl
 pub hex_next : (s : List ℕ) (i : ℕ) (ok h : Bool) → i < length s → h ≡ is_hex (get_or s i 0) → all_hex s ≡ (ok && all_hex (drop i s))
     → all_hex s ≡ ((ok && h) && all_hex (drop (i + 1) s))
 hex_next s i ok h l e inv =
-    inv ∙ ap (λ (x : List ℕ). ok && all_hex x) (uncons s i l) ∙ ap (λ (b : Bool). ok && b) (one (get_or s i 0) (drop (i + 1) s))
+    inv ∙ ap (λ (x : List ℕ). ok && all_hex x) (drop_more s i 0 l) ∙ ap (λ (b : Bool). ok && b) (one (get_or s i 0) (drop (i + 1) s))
     ∙ sym (and_assoc ok (is_hex (get_or s i 0)) (all_hex (drop (i + 1) s))) ∙ ap (λ (b : Bool). (ok && b) && all_hex (drop (i + 1) s)) (sym e)
 
 pub hex_end : (s : List ℕ) (i : ℕ) (ok : Bool) → length s ≤ i → all_hex s ≡ (ok && all_hex (drop i s)) → ok ≡ all_hex s
@@ -149,7 +147,7 @@ bytes_next : (s : List ℕ) (i : ℕ) → 2 * i + 1 < length s
     → bytes (drop (2 * i) s) ≡ (hex_value (get_or s (2 * i) 0) * 16 + hex_value (get_or s (2 * i + 1) 0)) ∷ bytes (drop (2 * (i + 1)) s)
 bytes_next s i h =
     let n : 2 * i + 1 + 1 ≡ 2 * (i + 1) = omega arith in
-    ap bytes (uncons s (2 * i) (omega arith) ∙ ap (λ (l : List ℕ). get_or s (2 * i) 0 ∷ l) (uncons s (2 * i + 1) h))
+    ap bytes (drop_more s (2 * i) 0 (omega arith) ∙ ap (λ (l : List ℕ). get_or s (2 * i) 0 ∷ l) (drop_more s (2 * i + 1) 0 h))
     ∙ two_bytes _ _ _
     ∙ ap (λ (k : ℕ). (hex_value (get_or s (2 * i) 0) * 16 + hex_value (get_or s (2 * i + 1) 0)) ∷ bytes (drop k s)) n
 
@@ -163,13 +161,6 @@ bytes_end : (s : List ℕ) (i : ℕ) → length s ≤ 2 * i + 1 → bytes (drop 
 bytes_end s i h = bytes_short (drop (2 * i) s) (rw (length-drop) (omega arith))
 
 -- ---- fields of one and of two bytes
-
-pub code_other : (s : List ℕ) → (length s ≡ 2 → ⊥) → None ≡ code s
-unfolding code
-code_other [] h = refl
-code_other (a ∷ []) h = refl
-code_other (a ∷ b ∷ []) h = absurd (h refl)
-code_other (a ∷ b ∷ c ∷ s) h = refl
 
 pub kind_k : (s : List ℕ) → length s ≡ 1 → get_or s 0 0 ≡ 75 → kind s ≡ Some (Plain AbortDone)
 unfolding kind
@@ -244,10 +235,10 @@ only_onto g c (f ∷ f' ∷ fs) = refl
 
 only_step : (g : List ℕ → Record) (c : ℕ) (cs : List ℕ) (b : Bool) → only (λ f. g (c ∷ f)) (fields cs) ≡ (if has_tab cs then malformed else g (c ∷ cs))
     → only g (if b then [] ∷ fields cs else onto c (fields cs)) ≡ (if (if b then true else has_tab cs) then malformed else g (c ∷ cs))
-only_step g c cs true e = ap (λ (fs : List (List ℕ)). only g ([] ∷ fs)) (cut_start cs) ∙ only_two g [] (fields cs)
+only_step g c cs true e = ap (λ (fs : List (List ℕ)). only g ([] ∷ fs)) (fields_start cs) ∙ only_two g [] (fields cs)
 only_step g c cs false e =
-    ap (λ (fs : List (List ℕ)). only g (onto c fs)) (cut_start cs) ∙ only_onto g c (fields cs)
-    ∙ ap (only (λ f. g (c ∷ f))) (sym (cut_start cs)) ∙ e
+    ap (λ (fs : List (List ℕ)). only g (onto c fs)) (fields_start cs) ∙ only_onto g c (fields cs)
+    ∙ ap (only (λ f. g (c ∷ f))) (sym (fields_start cs)) ∙ e
 
 only_fields : (g : List ℕ → Record) (xs : List ℕ) → only g (fields xs) ≡ (if has_tab xs then malformed else g xs)
 unfolding fields has_tab

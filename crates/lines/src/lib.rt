@@ -45,6 +45,7 @@ fn first_tab(s: &[u8]) -> Option<usize>
 }
 
 // The first field, and what follows its tab.
+#[tactic(auto, using(crate::proofs::Texts::fields_one, crate::proofs::Texts::fields_split))]
 fn split(s: &[u8]) -> Option<(&[u8], &[u8])>
     ensures { MatchOption result (fields s.now ≡ s.now ∷ []) (λ p. fields s.now ≡ p.0.now ∷ fields p.1.now) }
 {
@@ -63,6 +64,7 @@ fn with_digit(n: u32, c: u8) -> Option<u32>
 }
 
 // The number that these decimal digits make; leading zeros are not looked for.
+#[tactic(auto, using(crate::proofs::Texts::more_at, crate::proofs::Texts::more_end))]
 fn digits(s: &[u8]) -> Option<u32>
     ensures { result ≡ more 0 s.now }
 {
@@ -93,6 +95,7 @@ fn is_hex(c: u8) -> bool
 }
 
 // The value of a hex digit. With no branch in it, so that a whole block is decoded many digits at a time.
+#[tactic(auto, using(crate::proofs::Texts::digit_value))]
 fn hex_digit(c: u8) -> u8
     requires { is_hex c ≡ true }
     ensures value { result ≡ hex_value c }
@@ -178,6 +181,7 @@ fn read_event(s: &[u8]) -> Option<Line>
 
 // Whether all are hex digits. It looks at each, where `all` would stop at the first that is none, so that a whole block
 // is looked at many digits at a time.
+#[tactic(auto, using(crate::proofs::Texts::hex_next, crate::proofs::Texts::hex_end))]
 fn all_hex(s: &[u8]) -> bool
     ensures { result ≡ all_hex s.now }
 {
@@ -189,6 +193,7 @@ fn all_hex(s: &[u8]) -> bool
 }
 
 // The bytes that these hex digits make, two to a byte, to the start of the lent array.
+#[tactic(auto, using(crate::proofs::Texts::hex_at, crate::proofs::Texts::decode_next, crate::proofs::Texts::decode_end))]
 fn decode(s: &[u8], block: &mut [u8; 200])
     requires { (length s.now ≤ 400) × (all_hex s.now ≡ true) }
     ensures { block.new ≡ sets block.old 0 (bytes s.now) }
