@@ -204,6 +204,7 @@ fn decode(s: &[u8], block: &mut [u8; 200])
 }
 
 // What follows the letter S and a tab. All the digits are looked at before any byte is stored.
+#[tactic(auto, using(crate::proofs::Records::block_odd, crate::proofs::Records::block_bad))]
 fn read_block(s: &[u8], block: &mut [u8; 200]) -> Option<Line>
     requires { length s.now ≤ 400 }
     ensures { Parsed (of_block s.now) block.old block.new result }
@@ -259,7 +260,7 @@ fn read_line(line: &[u8], block: &mut [u8; 200]) -> Option<Line>
 }
 
 // One line, without its line feed, as a record. The bytes of a block go to the start of the lent array.
-#[tactic(auto, using(crate::proofs::Overlong::parse_long))]
+#[tactic(auto, using(crate::proofs::Overlong::parse_long, crate::proofs::Records::parse_short, crate::proofs::Records::handed_over))]
 pub fn parse_line(line: &[u8], block: &mut [u8; 200]) -> Result<Line, Malformed>
     ensures { Parsed (parse line.now) block.old block.new (result_ok result) }
 {
