@@ -14,6 +14,7 @@ use lib.Dec.{eqb}
 use Rattle.std.proofs.Math.Bool.{and-false}
 use Rattle.board.specs.Board.{the_ticket}
 use Rattle.board.specs.declared.Event.{Event}
+use Rattle.board.specs.declared.Event.TheVariants.{Complete}
 use Rattle.board.specs.declared.Sense.{Sense}
 use Rattle.lines.specs.Text.{number, fields, onto, are_bytes, all_hex, bytes, code}
 use Rattle.lines.specs.Record.{Record, submit, send, event, abort, freeze, release, tick, reset, hand_back, malformed, only, none_more, of_number, numbered, of_block, plain_event, complete_event, event_of, by_letter, record_of, parse, told, kept, room, Parsed, kind, sense}
@@ -72,21 +73,27 @@ module _ (t k : List ℕ) where
     no_kind (m ∷ c ∷ s ∷ []) e = rw (h, e)
     no_kind (m ∷ c ∷ s ∷ f ∷ fs) e = refl
 
-    module _ (what : Event) (e : kind k ≡ Some (Plain what)) where
+    module _ (q : Kind) (e : kind k ≡ Some q) (what : Event) (i : q ≡ Plain what) where
       of_fields : (fs : List (List ℕ)) → event_of (t ∷ k ∷ fs) ≡ only (λ f. of_number (event (the_ticket n) what) (number f)) fs
       unfolding event_of
       of_fields [] = refl
-      of_fields (m ∷ []) = rw (h, e) (by_moved (number m))
+      of_fields (m ∷ []) = rw (h, e, i) (by_moved (number m))
         where
           by_moved : (o : Option ℕ) → plain_event (Some n) (Some (Plain what)) o ≡ of_number (event (the_ticket n) what) o
           by_moved None = refl
           by_moved (Some m) = refl
       of_fields (m ∷ c ∷ []) = refl
-      of_fields (m ∷ c ∷ s ∷ []) = rw (h, e)
+      of_fields (m ∷ c ∷ s ∷ []) = rw (h, e, i)
       of_fields (m ∷ c ∷ s ∷ f ∷ fs) = refl
 
-      pub plain : (s : List ℕ) (o : Option ℕ) → number s ≡ o → event_of (t ∷ k ∷ fields s) ≡ of_number (event (the_ticket n) what) o
-      plain s o x = of_fields (fields s) ∙ number_field (event (the_ticket n) what) s ∙ ap (of_number (event (the_ticket n) what)) x
+      from_bytes : (s : List ℕ) (o : Option ℕ) → number s ≡ o → event_of (t ∷ k ∷ fields s) ≡ of_number (event (the_ticket n) what) o
+      from_bytes s o x = of_fields (fields s) ∙ number_field (event (the_ticket n) what) s ∙ ap (of_number (event (the_ticket n) what)) x
+
+      pub plain_no_bytes : (s : List ℕ) → number s ≡ None → event_of (t ∷ k ∷ fields s) ≡ malformed
+      plain_no_bytes s x = from_bytes s None x
+
+      pub plain : (s : List ℕ) (moved : ℕ) → number s ≡ Some moved → event_of (t ∷ k ∷ fields s) ≡ event (the_ticket n) what moved
+      plain s moved x = from_bytes s (Some moved) x
 
     module _ (e : kind k ≡ Some Completed) where
       pub three : (m : List ℕ) → event_of (t ∷ k ∷ m ∷ []) ≡ malformed
@@ -97,20 +104,40 @@ module _ (t k : List ℕ) where
       unfolding event_of
       four m c = refl
 
-      no_sense : (m c : Option ℕ) → complete_event (Some n) (Some Completed) m c None ≡ malformed
-      no_sense None c = refl
-      no_sense (Some m) None = refl
-      no_sense (Some m) (Some c) = refl
+      senseless : (m c : Option ℕ) → complete_event (Some n) (Some Completed) m c None ≡ malformed
+      senseless None c = refl
+      senseless (Some m) None = refl
+      senseless (Some m) (Some c) = refl
 
-      pub five : (m c s : List ℕ) (moved status : Option ℕ) (what : Option Sense) → number m ≡ moved → code c ≡ status → sense s ≡ what
-          → event_of (t ∷ k ∷ m ∷ c ∷ fields s) ≡ complete_event (Some n) (Some Completed) moved status what
-      unfolding event_of
-      five m c s moved status what x y z = rw (← x, ← y, ← z) (in_fields (fields s) ∙ one_field (λ x. complete_event (Some n) (Some Completed) (number m) (code c) (sense x)) (λ xs x. rw (sense_tab xs x) (no_sense _ _)) s)
-        where
-          in_fields : (fs : List (List ℕ)) → event_of (t ∷ k ∷ m ∷ c ∷ fs) ≡ only (λ x. complete_event (Some n) (Some Completed) (number m) (code c) (sense x)) fs
-          in_fields [] = refl
-          in_fields (s ∷ []) = rw (h, e)
-          in_fields (s ∷ f ∷ fs) = refl
+      module _ (m c s : List ℕ) where
+        five : event_of (t ∷ k ∷ m ∷ c ∷ fields s) ≡ complete_event (Some n) (Some Completed) (number m) (code c) (sense s)
+        unfolding event_of
+        five = in_fields (fields s) ∙ one_field (λ x. complete_event (Some n) (Some Completed) (number m) (code c) (sense x)) (λ xs x. rw (sense_tab xs x) (senseless _ _)) s
+          where
+            in_fields : (fs : List (List ℕ)) → event_of (t ∷ k ∷ m ∷ c ∷ fs) ≡ only (λ x. complete_event (Some n) (Some Completed) (number m) (code c) (sense x)) fs
+            in_fields [] = refl
+            in_fields (s ∷ []) = rw (h, e)
+            in_fields (s ∷ f ∷ fs) = refl
+
+        pub no_bytes : number m ≡ None → event_of (t ∷ k ∷ m ∷ c ∷ fields s) ≡ malformed
+        no_bytes x = five ∙ ap (λ (o : Option ℕ). complete_event (Some n) (Some Completed) o (code c) (sense s)) x
+
+        module _ (moved : ℕ) (x : number m ≡ Some moved) where
+          pub no_status : code c ≡ None → event_of (t ∷ k ∷ m ∷ c ∷ fields s) ≡ malformed
+          no_status y = five ∙ ap (λ (o : Option ℕ). complete_event (Some n) (Some Completed) o (code c) (sense s)) x
+              ∙ ap (λ (o : Option ℕ). complete_event (Some n) (Some Completed) (Some moved) o (sense s)) y
+
+          module _ (status : ℕ) (y : code c ≡ Some status) where
+            with_sense : (o : Option Sense) → sense s ≡ o → event_of (t ∷ k ∷ m ∷ c ∷ fields s) ≡ complete_event (Some n) (Some Completed) (Some moved) (Some status) o
+            with_sense o z = five ∙ ap (λ (o : Option ℕ). complete_event (Some n) (Some Completed) o (code c) (sense s)) x
+                ∙ ap (λ (o : Option ℕ). complete_event (Some n) (Some Completed) (Some moved) o (sense s)) y
+                ∙ ap (complete_event (Some n) (Some Completed) (Some moved) (Some status)) z
+
+            pub no_sense : sense s ≡ None → event_of (t ∷ k ∷ m ∷ c ∷ fields s) ≡ malformed
+            no_sense z = with_sense None z
+
+            pub complete : (what : Sense) → sense s ≡ Some what → event_of (t ∷ k ∷ m ∷ c ∷ fields s) ≡ event (the_ticket n) (Complete status what) moved
+            complete what z = with_sense (Some what) z
 
 -- ---- the letter
 
@@ -358,10 +385,3 @@ no_record r l h = same_record r malformed None l l h (less_record malformed None
 pub parse_short : (s : List ℕ) → length s ≤ 400 → parse s ≡ record_of (fields s)
 unfolding parse
 parse_short s h = rw (le-leb (length s) 400 h)
-
-pub handed_over : (r q : Record) {a : Option Line} {e : Malformed} (x : Result Line Malformed) {l l' : List ℕ} → r ≡ q → x ≡ ok_or a e → Parsed q l l' a → Parsed r l l' (result_ok x)
-handed_over r q {a} {e} x {l} {l'} p h k = same_record r q _ _ _ p (subst (λ (o : Option Line). Parsed q l l' o) (sym (ap result_ok h ∙ back a e)) k)
-  where
-    back : (a : Option Line) (e : Malformed) → result_ok (ok_or a e) ≡ a
-    back None e = refl
-    back (Some x) e = refl

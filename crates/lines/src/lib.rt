@@ -158,6 +158,7 @@ fn read_sense(s: &[u8]) -> Option<Sense>
 }
 
 // What follows the letter E and a tab. The last field is all that is left: with a tab in it, it is no number and no sense.
+#[tactic(auto, using(crate::proofs::Records::event_one, crate::proofs::Records::event_two, crate::proofs::Records::no_ticket, crate::proofs::Records::no_kind, crate::proofs::Records::plain_no_bytes, crate::proofs::Records::plain, crate::proofs::Records::three, crate::proofs::Records::four, crate::proofs::Records::no_bytes, crate::proofs::Records::no_status, crate::proofs::Records::no_sense, crate::proofs::Records::complete))]
 fn read_event(s: &[u8]) -> Option<Line>
     ensures { result ≡ told (event_of (fields s.now)) }
 {
@@ -246,6 +247,7 @@ fn with_number(letter: u8, n: u32) -> Option<Line>
 }
 
 // A line of at most 400 bytes.
+#[tactic(auto, using(crate::proofs::Records::line_none, crate::proofs::Records::line_bad))]
 fn read_line(line: &[u8], block: &mut [u8; 200]) -> Option<Line>
     requires { length line.now ≤ 400 }
     ensures { Parsed (record_of (fields line.now)) block.old block.new result }
@@ -260,7 +262,7 @@ fn read_line(line: &[u8], block: &mut [u8; 200]) -> Option<Line>
 }
 
 // One line, without its line feed, as a record. The bytes of a block go to the start of the lent array.
-#[tactic(auto, using(crate::proofs::Overlong::parse_long, crate::proofs::Records::parse_short, crate::proofs::Records::handed_over))]
+#[tactic(auto, using(crate::proofs::Overlong::parse_long, crate::proofs::Records::parse_short))]
 pub fn parse_line(line: &[u8], block: &mut [u8; 200]) -> Result<Line, Malformed>
     ensures { Parsed (parse line.now) block.old block.new (result_ok result) }
 {

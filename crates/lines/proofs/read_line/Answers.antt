@@ -22,15 +22,3 @@ pub returns-in_err-read_number-in-9 : goal.returns-in_err-read_number-in-9
 returns-in_err-read_number-in-9 c = same_record _ _ _ _ _
     (tab_rest _ (omega arith) (omega arith) ∙ sym (letter_number _ _ _ (λ e. omega arith) (λ e. omega arith) c.in_err-read_number-in-9.ensures))
     (less_record _ _ _ less_malformed c.from_residual.ensures)
-
-pub returns-in_default : goal.returns-in_default
-returns-in_default c = no_record _ _ (line_none _ c.in_default.len_below)
-
-pub returns-in_default-2 : goal.returns-in_default-2
-returns-in_default-2 c = no_record _ _ (line_bad _ (omega arith) (λ e. omega arith))
-
-pub returns-in_default-3 : goal.returns-in_default-3
-returns-in_default-3 c = no_record _ _ (line_bad _ (omega arith) (λ e. omega arith))
-
-pub returns-in_default-4 : goal.returns-in_default-4
-returns-in_default-4 c = no_record _ _ (line_bad _ (omega arith) (λ e. omega arith))
