@@ -1,7 +1,5 @@
 -- Laws of whole records: what the parts that the code finds make of the line. Assumes nothing.
-use Rattle.std.specs.Prelude.{if◌then◌else◌, Option, Some, None, Result}
-use Rattle.std.specs.Option.{ok_or}
-use Rattle.std.specs.Result.{result_ok}
+use Rattle.std.specs.Prelude.{if◌then◌else◌, Option, Some, None}
 use Prim.Native.Nat.{ℕ, ◌-◌, ◌/◌, ◌%◌, ◌≤◌, ◌<◌}
 use mathlib.Core.Path.{◌≡◌, refl, sym, ap, ◌∙◌, subst}
 use mathlib.Core.Bool.{Bool, true, false}
@@ -20,10 +18,9 @@ use Rattle.lines.specs.Text.{number, fields, onto, are_bytes, all_hex, bytes, co
 use Rattle.lines.specs.Record.{Record, submit, send, event, abort, freeze, release, tick, reset, hand_back, malformed, only, none_more, of_number, numbered, of_block, plain_event, complete_event, event_of, by_letter, record_of, parse, told, kept, room, Parsed, kind, sense}
 use Rattle.lines.specs.declared.Line.{Line}
 use Rattle.lines.specs.declared.Line.TheVariants as line
-use Rattle.lines.specs.declared.Malformed.{Malformed}
 use Rattle.lines.specs.declared.Kind.{Kind}
 use Rattle.lines.specs.declared.Kind.TheVariants.{Plain, Completed}
-use Rattle.lines.proofs.Texts.{ahead, fields_start, fields_other, one_field, hex_tab, number_tab, sense_tab, same, length_bytes}
+use Rattle.lines.proofs.Texts.{ahead, fields_start, fields_other, one_field, hex_tab, number_tab, sense_tab, length_bytes}
 
 -- there is a first field
 more_fields : (g : List (List ℕ) → Record) (s : List ℕ) → ((f : List ℕ) (fs : List (List ℕ)) → g (f ∷ fs) ≡ malformed) → g (fields s) ≡ malformed
@@ -38,14 +35,6 @@ number_field : (make : ℕ → Record) (s : List ℕ) → only (λ f. of_number 
 number_field make s = one_field (λ f. of_number make (number f)) (λ xs h. ap (of_number make) (number_tab xs h)) s
 
 -- ---- an event: fewer than three fields, a ticket or a kind that is none, then each kind
-
--- the fields of a line whose first field ends at a tab
-pub after : (s t r : List ℕ) {fs : List (List ℕ)} → fields s ≡ t ∷ fields r → fields r ≡ fs → fields s ≡ t ∷ fs
-after s t r p q = p ∙ ap (λ (gs : List (List ℕ)). t ∷ gs) q
-
--- what is handed over, from the fields that the code found
-pub event_is : (s : List ℕ) {fs : List (List ℕ)} {r : Record} {a : Option Line} → fields s ≡ fs → event_of fs ≡ r → a ≡ told r → a ≡ told (event_of (fields s))
-event_is s p q e = e ∙ sym (ap told (ap event_of p ∙ q))
 
 pub event_one : (f : List ℕ) → event_of (f ∷ []) ≡ malformed
 unfolding event_of
@@ -138,6 +127,8 @@ module _ (t k : List ℕ) where
 
             pub complete : (what : Sense) → sense s ≡ Some what → event_of (t ∷ k ∷ m ∷ c ∷ fields s) ≡ event (the_ticket n) (Complete status what) moved
             complete what z = with_sense (Some what) z
+
+pub ruleset events = (event_one, event_two, no_ticket, no_kind, plain_no_bytes, plain, three, four, no_bytes, no_status, no_sense, complete)
 
 -- ---- the letter
 
@@ -375,10 +366,6 @@ less_record r a l h e = record {
   array = sym (kept_less r l h);
   fits = subst room (sym e) (room_less r h);
 }
-
-pub no_record : (r : Record) (l : List ℕ) → r ≡ malformed → Parsed r l l None
-unfolding blockless
-no_record r l h = same_record r malformed None l l h (less_record malformed None l refl refl)
 
 -- ---- the longest line
 

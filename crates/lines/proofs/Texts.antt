@@ -13,7 +13,7 @@ use native.Mathlib.Omega.{arith}
 use native.Mathlib.Numerals.{add-one}
 use borrow.Author.Tests.{eq-eqb, ne_eqb, eqb-true}
 use lib.ListN.{length, get_or, set, take, drop, drop_of_length-le, length-drop}
-use lib.Seq.{drop-cons, sets, take_all}
+use lib.Seq.{sets, take_all}
 use lib.Dec.{eqb}
 use Rattle.lines.specs.Text.{more, with_digit, number, fields, onto, is_hex, hex_value, all_hex, bytes, code}
 use Rattle.lines.specs.Record.{Record, malformed, only, kind, named, byte_sense, sense}
@@ -51,6 +51,8 @@ unfolding number
 number_digits [] l h = absurd (omega arith)
 number_digits (c ∷ []) l h = refl
 number_digits (c ∷ d ∷ s) l h = rw (ne_eqb c 48 (h (omega arith)))
+
+pub ruleset numbers = (number_none, number_lead, number_digits)
 
 -- ---- fields: those of the rest, with the bytes passed before the first
 
@@ -180,6 +182,8 @@ kind_code [] h k = refl
 kind_code (a ∷ []) h k = rw (ne_eqb a 75 (h refl), ne_eqb a 67 (k refl))
 kind_code (a ∷ b ∷ s) h k = refl
 
+pub ruleset kinds = (kind_k, kind_c, kind_code)
+
 pub sense_x : (s : List ℕ) → length s ≡ 1 → get_or s 0 0 ≡ 88 → sense s ≡ Some sensed.Failed
 unfolding sense
 sense_x [] h k = absurd (omega arith)
@@ -197,6 +201,8 @@ unfolding sense number
 sense_number [] h k = refl
 sense_number (a ∷ []) h k = rw (ne_eqb a 88 (h refl), ne_eqb a 45 (k refl))
 sense_number (a ∷ b ∷ s) h k = refl
+
+pub ruleset senses = (sense_x, sense_dash, sense_number)
 
 -- ---- storing the bytes of a block
 

@@ -76,7 +76,7 @@ fn digits(s: &[u8]) -> Option<u32>
 }
 
 // A decimal number, 0 to 4294967295, no leading zeros.
-#[tactic(auto, using(crate::proofs::Texts::number_none, crate::proofs::Texts::number_lead, crate::proofs::Texts::number_digits))]
+#[tactic(auto, using(crate::proofs::Texts::numbers))]
 fn read_number(s: &[u8]) -> Option<u32>
     ensures { result ≡ number s.now }
 {
@@ -134,7 +134,7 @@ fn named(code: u8) -> Option<Kind>
 }
 
 // The kind of an event: K, C or a code.
-#[tactic(auto, using(crate::proofs::Texts::kind_k, crate::proofs::Texts::kind_c, crate::proofs::Texts::kind_code))]
+#[tactic(auto, using(crate::proofs::Texts::kinds))]
 fn read_kind(s: &[u8]) -> Option<Kind>
     ensures { result ≡ kind s.now }
 {
@@ -146,7 +146,7 @@ fn read_kind(s: &[u8]) -> Option<Kind>
 }
 
 // What became of the sense: X failed, - none, or how many bytes came.
-#[tactic(auto, using(crate::proofs::Texts::sense_x, crate::proofs::Texts::sense_dash, crate::proofs::Texts::sense_number), unfolding(crate::specs::Record::byte_sense))]
+#[tactic(auto, using(crate::proofs::Texts::senses), unfolding(crate::specs::Record::byte_sense))]
 fn read_sense(s: &[u8]) -> Option<Sense>
     ensures { result ≡ sense s.now }
 {
@@ -158,7 +158,7 @@ fn read_sense(s: &[u8]) -> Option<Sense>
 }
 
 // What follows the letter E and a tab. The last field is all that is left: with a tab in it, it is no number and no sense.
-#[tactic(auto, using(crate::proofs::Records::event_one, crate::proofs::Records::event_two, crate::proofs::Records::no_ticket, crate::proofs::Records::no_kind, crate::proofs::Records::plain_no_bytes, crate::proofs::Records::plain, crate::proofs::Records::three, crate::proofs::Records::four, crate::proofs::Records::no_bytes, crate::proofs::Records::no_status, crate::proofs::Records::no_sense, crate::proofs::Records::complete))]
+#[tactic(auto, using(crate::proofs::Records::events))]
 fn read_event(s: &[u8]) -> Option<Line>
     ensures { result ≡ told (event_of (fields s.now)) }
 {

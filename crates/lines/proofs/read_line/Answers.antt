@@ -1,7 +1,7 @@
 -- `lines::read_line` meets its contract. Assumes nothing.
 use mathlib.Core.Path.{sym, ◌∙◌}
 use native.Mathlib.Omega.{arith}
-use Rattle.lines.proofs.Records.{line_one, line_none, line_bad, letter_block, letter_event, letter_number, less_letter, less_malformed, less_event, less_numbered, less_record, no_record, same_record, tab_rest}
+use Rattle.lines.proofs.Records.{line_one, letter_block, letter_event, letter_number, less_letter, less_malformed, less_event, less_numbered, less_record, same_record, tab_rest}
 use Rattle.lines.proofs.read_line.Goals as goal
 
 pub returns-in-len1 : goal.returns-in-len1
