@@ -1,4 +1,4 @@
--- Laws of the text of a line, each in the form in which a loop over the bytes asks for it. Assumes nothing.
+-- Laws of the text of a line, each in the form in which the code that reads it asks for it. Assumes nothing.
 use Rattle.std.proofs.lemmas.Bool.{ltb-false}
 use Rattle.std.proofs.lemmas.List.{drop_more}
 use Rattle.std.proofs.Math.Bool.{and_assoc, and-true, and-false}

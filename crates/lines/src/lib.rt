@@ -87,7 +87,7 @@ fn read_number(s: &[u8]) -> Option<u32>
     }
 }
 
-// An upper-case hex digit. Of two tests with `|`, since one `matches!` of both ranges was slower.
+// An upper-case hex digit. Of two tests with `|`, since one `matches!` of both ranges is slower.
 fn is_hex(c: u8) -> bool
     ensures { result ≡ is_hex c }
 {
