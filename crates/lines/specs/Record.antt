@@ -1,24 +1,19 @@
 -- One record of the log: what a line says, and what reading one promises. Assumes nothing.
-use Rattle.std.specs.Prelude.{List, [], ◌∷◌, ℕ, ◌≤◌, ◌≡◌, length, if◌then◌else◌}
+use Rattle.std.specs.Prelude.{List, [], ◌∷◌, ℕ, ◌≤◌, ◌≡◌, Option, Some, None, option_and_then, length, if◌then◌else◌}
+use Rattle.std.specs.Option.{option_map}
+use Rattle.std.specs.Result.{result_ok}
 use Rattle.std.proofs.lemmas.List.Edits.{sets}
 use Rattle.board.specs.Plain.{◌=?◌, ◌≤?◌}
 use Rattle.board.specs.Board.{the_ticket}
 use Rattle.board.specs.declared.Ticket.{Ticket}
 use Rattle.board.specs.declared.Event.{Event}
 use Rattle.board.specs.declared.Event.TheVariants.{AbortDone, Complete}
-use Rattle.board.specs.declared.Coded.{Coded}
-use Rattle.board.specs.declared.Coded.TheVariants.{Names, Nothing}
 use Rattle.board.specs.Ending.{event_named}
-use Rattle.board.specs.declared.Sense.TheVariants.{Bytes, Failed, None}
+use Rattle.board.specs.declared.Sense.{Sense}
+use Rattle.board.specs.declared.Sense.TheVariants as sensed
 use Rattle.lines.specs.Text.{fields, number, code, are_bytes, bytes}
-use Rattle.lines.specs.declared.Code.{Code}
-use Rattle.lines.specs.declared.Code.TheVariants.{Byte, Bad}
-use Rattle.lines.specs.declared.Number.{Number}
-use Rattle.lines.specs.declared.Number.TheVariants.{Is, Not}
 use Rattle.lines.specs.declared.Kind.{Kind}
-use Rattle.lines.specs.declared.Kind.TheVariants.{Plain, Completed, NoKind}
-use Rattle.lines.specs.declared.Sensed.{Sensed}
-use Rattle.lines.specs.declared.Sensed.TheVariants.{Says, Wrong}
+use Rattle.lines.specs.declared.Kind.TheVariants.{Plain, Completed}
 use Rattle.lines.specs.declared.Line.{Line}
 use Rattle.lines.specs.declared.Line.TheVariants as line
 
@@ -35,36 +30,24 @@ pub data Record : Type 0 where
 -- ---- single fields
 
 -- what a code names: selection timeout, parity, bus free, phase, adapter error
-abbrev pub kind_named : Coded → Kind
-kind_named (Names e) = Plain e
-kind_named Nothing = NoKind
-
-abbrev pub named : ℕ → Kind
-named n = kind_named (event_named n)
-
-abbrev pub code_kind : Code → Kind
-code_kind (Byte n) = named n
-code_kind Bad = NoKind
+abbrev pub named : ℕ → Option Kind
+named n = option_map Plain (result_ok (event_named n))
 
 -- the kind of an event: K for abort done, C for complete, or a code
-unfoldable pub kind : List ℕ → Kind
-kind [] = NoKind
-kind (a ∷ []) = if a =? 75 then Plain AbortDone else if a =? 67 then Completed else NoKind
-kind (a ∷ b ∷ cs) = code_kind (code (a ∷ b ∷ cs))
+unfoldable pub kind : List ℕ → Option Kind
+kind [] = None
+kind (a ∷ []) = if a =? 75 then Some (Plain AbortDone) else if a =? 67 then Some Completed else None
+kind (a ∷ b ∷ cs) = option_and_then named (code (a ∷ b ∷ cs))
 
 -- bytes of sense: 0 to 255
-unfoldable pub byte_sense : ℕ → Sensed
-byte_sense n = if n ≤? 255 then Says (Bytes n) else Wrong
-
-abbrev pub sense_bytes : Number → Sensed
-sense_bytes (Is n) = byte_sense n
-sense_bytes Not = Wrong
+unfoldable pub byte_sense : ℕ → Option Sense
+byte_sense n = if n ≤? 255 then Some (sensed.Bytes n) else None
 
 -- what became of the sense: X failed, - none, or the bytes that came
-unfoldable pub sense : List ℕ → Sensed
-sense [] = Wrong
-sense (a ∷ []) = if a =? 88 then Says Failed else if a =? 45 then Says None else sense_bytes (number (a ∷ []))
-sense (a ∷ b ∷ cs) = sense_bytes (number (a ∷ b ∷ cs))
+unfoldable pub sense : List ℕ → Option Sense
+sense [] = None
+sense (a ∷ []) = if a =? 88 then Some sensed.Failed else if a =? 45 then Some sensed.None else option_and_then byte_sense (number (a ∷ []))
+sense (a ∷ b ∷ cs) = option_and_then byte_sense (number (a ∷ b ∷ cs))
 
 -- ---- the fields after the letter
 
@@ -80,49 +63,29 @@ only g (f ∷ []) = g f
 only g (f ∷ f' ∷ fs) = malformed
 
 -- what is made of a number
-abbrev pub of_number : (ℕ → Record) → Number → Record
-of_number make (Is n) = make n
-of_number make Not = malformed
+abbrev pub of_number : (ℕ → Record) → Option ℕ → Record
+of_number make (Some n) = make n
+of_number make None = malformed
 
 -- a block: two digits a byte, may be empty
 abbrev pub of_block : List ℕ → Record
 of_block f = if are_bytes f then submit (bytes f) else malformed
 
 -- an event of three fields: any kind but C
-abbrev pub plain_event : (ticket : Number) → Kind → (moved : Number) → Record
-plain_event (Is t) (Plain e) (Is n) = event (the_ticket t) e n
-plain_event (Is t) (Plain e) Not = malformed
-plain_event (Is t) Completed m = malformed
-plain_event (Is t) NoKind m = malformed
-plain_event Not k m = malformed
-
--- an event of kind C
-abbrev pub completed : (ticket moved : Number) → (status : Code) → Sensed → Record
-completed (Is t) (Is n) (Byte status) (Says s) = event (the_ticket t) (Complete status s) n
-completed (Is t) (Is n) (Byte status) Wrong = malformed
-completed (Is t) (Is n) Bad s = malformed
-completed (Is t) Not status s = malformed
-completed Not m status s = malformed
+abbrev pub plain_event : (ticket : Option ℕ) → Option Kind → (moved : Option ℕ) → Record
+plain_event (Some t) (Some (Plain e)) (Some n) = event (the_ticket t) e n
+plain_event _ _ _ = malformed
 
 -- an event of five fields: kind C only
-abbrev pub complete_event : (ticket : Number) → Kind → (moved : Number) → (status : Code) → Sensed → Record
-complete_event t (Plain e) m status s = malformed
-complete_event t Completed m status s = completed t m status s
-complete_event t NoKind m status s = malformed
+abbrev pub complete_event : (ticket : Option ℕ) → Option Kind → (moved status : Option ℕ) → Option Sense → Record
+complete_event (Some t) (Some Completed) (Some n) (Some status) (Some s) = event (the_ticket t) (Complete status s) n
+complete_event _ _ _ _ _ = malformed
 
--- after the bytes: nothing, or SCSI status and sense
-unfoldable pub event_rest : (ticket : Number) → Kind → (moved : Number) → List (List ℕ) → Record
-event_rest t k m [] = plain_event t k m
-event_rest t k m (c ∷ []) = malformed
-event_rest t k m (c ∷ s ∷ []) = complete_event t k m (code c) (sense s)
-event_rest t k m (c ∷ s ∷ f ∷ fs) = malformed
-
--- ticket, kind, bytes
+-- ticket, kind, bytes; after the bytes nothing, or SCSI status and sense
 unfoldable pub event_of : List (List ℕ) → Record
-event_of [] = malformed
-event_of (t ∷ []) = malformed
-event_of (t ∷ k ∷ []) = malformed
-event_of (t ∷ k ∷ m ∷ fs) = event_rest (number t) (kind k) (number m) fs
+event_of (t ∷ k ∷ m ∷ []) = plain_event (number t) (kind k) (number m)
+event_of (t ∷ k ∷ m ∷ c ∷ s ∷ []) = complete_event (number t) (kind k) (number m) (code c) (sense s)
+event_of _ = malformed
 
 -- A ticket, F unit, R unit; no other letter has one number after it
 unfoldable pub numbered : (letter : ℕ) → ℕ → Record
@@ -156,49 +119,34 @@ record_of ((c ∷ d ∷ cs) ∷ fs) = malformed
 unfoldable pub parse : List ℕ → Record
 parse line = if length line ≤? 400 then record_of (fields line) else malformed
 
--- ---- the same, as the code hands it over: a block by how many bytes it has, which stand at the start of the lent array
+-- ---- the same, as the code hands it over: a block by how many bytes it has, which stand at the start of the lent array;
+-- nothing where the line is not of the form
 
-abbrev pub told : Record → Line
-told (submit block) = line.Submit (length block)
-told send = line.Send
-told (event t e n) = line.Event t e n
-told (abort t) = line.Abort t
-told (freeze u) = line.Freeze u
-told (release u) = line.Release u
-told tick = line.Tick
-told reset = line.Reset
-told hand_back = line.HandBack
-told malformed = line.Malformed
+abbrev pub told : Record → Option Line
+told (submit block) = Some (line.Submit (length block))
+told send = Some line.Send
+told (event t e n) = Some (line.Event t e n)
+told (abort t) = Some (line.Abort t)
+told (freeze u) = Some (line.Freeze u)
+told (release u) = Some (line.Release u)
+told tick = Some line.Tick
+told reset = Some line.Reset
+told hand_back = Some line.HandBack
+told malformed = None
 
 -- the lent array afterwards
 abbrev pub kept : Record → List ℕ → List ℕ
 kept (submit block) lent = sets lent 0 block
-kept send lent = lent
-kept (event t e n) lent = lent
-kept (abort t) lent = lent
-kept (freeze u) lent = lent
-kept (release u) lent = lent
-kept tick lent = lent
-kept reset lent = lent
-kept hand_back lent = lent
-kept malformed lent = lent
+kept _ lent = lent
 
 -- a block has room in the lent array
-abbrev pub room : Line → Type 0
-room (line.Submit n) = n ≤ 200
-room line.Send = Unit
-room (line.Event t e n) = Unit
-room (line.Abort t) = Unit
-room (line.Freeze u) = Unit
-room (line.Release u) = Unit
-room line.Tick = Unit
-room line.Reset = Unit
-room line.HandBack = Unit
-room line.Malformed = Unit
+abbrev pub room : Option Line → Type 0
+room (Some (line.Submit n)) = n ≤ 200
+room _ = Unit
 
 -- What reading a line promises: what is handed over, the lent array afterwards, and that a block has room there. (The last
 -- follows where r is what a line says, since a line has at most 400 bytes; it is here for the caller.)
-pub record Parsed (r : Record) (lent lent' : List ℕ) (a : Line) : Type 0 where
+pub record Parsed (r : Record) (lent lent' : List ℕ) (a : Option Line) : Type 0 where
   pub says : a ≡ told r
   pub array : lent' ≡ kept r lent
   pub fits : room a

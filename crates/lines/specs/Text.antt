@@ -1,10 +1,6 @@
 -- The text of a line: its fields, decimal numbers, and hex digits. A byte is a number, and these are ASCII. Assumes nothing.
-use Rattle.std.specs.Prelude.{Bool, true, ◌&&◌, ◌||◌, List, [], ◌∷◌, ℕ, ◌+◌, ◌*◌, ◌-◌, ◌%◌, ◌≤◌, ◌<◌, ◌≡◌, length, take, drop, if◌then◌else◌}
+use Rattle.std.specs.Prelude.{Bool, true, ◌&&◌, ◌||◌, List, [], ◌∷◌, ℕ, ◌+◌, ◌*◌, ◌-◌, ◌%◌, Option, Some, None, option_and_then, length, if◌then◌else◌}
 use Rattle.board.specs.Plain.{◌=?◌, ◌≤?◌}
-use Rattle.lines.specs.declared.Code.{Code}
-use Rattle.lines.specs.declared.Code.TheVariants.{Byte, Bad}
-use Rattle.lines.specs.declared.Number.{Number}
-use Rattle.lines.specs.declared.Number.TheVariants.{Is, Not}
 
 -- ---- fields, parted by tabs
 
@@ -27,17 +23,20 @@ fields (c ∷ cs) = if c =? tab then [] ∷ fields cs else onto c (fields cs)
 abbrev pub is_digit : ℕ → Bool
 is_digit c = 48 ≤? c && c ≤? 57
 
--- the number with n's digits and then these; none at a byte that is no digit, and none above 4294967295
-unfoldable pub more : ℕ → List ℕ → Number
-more n [] = Is n
-more n (c ∷ cs) =
-    if is_digit c && (n * 10 + (c - 48) ≤? 4294967295) then more (n * 10 + (c - 48)) cs else Not
+-- the number with n's digits and then this one; none at a byte that is no digit, and none above 4294967295
+abbrev pub with_digit : ℕ → ℕ → Option ℕ
+with_digit n c = if is_digit c && (n * 10 + (c - 48) ≤? 4294967295) then Some (n * 10 + (c - 48)) else None
+
+-- the number with n's digits and then these
+unfoldable pub more : ℕ → List ℕ → Option ℕ
+more n [] = Some n
+more n (c ∷ cs) = option_and_then (λ m. more m cs) (with_digit n c)
 
 -- a zero stands alone
-unfoldable pub number : List ℕ → Number
-number [] = Not
+unfoldable pub number : List ℕ → Option ℕ
+number [] = None
 number (c ∷ []) = more 0 (c ∷ [])
-number (c ∷ d ∷ ds) = if c =? 48 then Not else more 0 (c ∷ d ∷ ds)
+number (c ∷ d ∷ ds) = if c =? 48 then None else more 0 (c ∷ d ∷ ds)
 
 -- ---- hex digits, upper-case, two to a byte
 
@@ -65,16 +64,8 @@ bytes (a ∷ []) = []
 bytes (a ∷ b ∷ rest) = (hex_value a * 16 + hex_value b) ∷ bytes rest
 
 -- a code: one byte
-unfoldable pub code : List ℕ → Code
-code [] = Bad
-code (a ∷ []) = Bad
-code (a ∷ b ∷ []) = if is_hex a && is_hex b then Byte (hex_value a * 16 + hex_value b) else Bad
-code (a ∷ b ∷ c ∷ cs) = Bad
-
--- ---- what the code's search for a tab promises
-
--- the first field of s ends at r
-pub record Cut (s : List ℕ) (r : ℕ) : Type 0 where
-  pub within : r ≤ length s
-  pub last : r ≡ length s → fields s ≡ take r s ∷ []
-  pub further : r < length s → fields s ≡ take r s ∷ fields (drop (r + 1) s)
+unfoldable pub code : List ℕ → Option ℕ
+code [] = None
+code (a ∷ []) = None
+code (a ∷ b ∷ []) = if is_hex a && is_hex b then Some (hex_value a * 16 + hex_value b) else None
+code (a ∷ b ∷ c ∷ cs) = None

@@ -1,12 +1,13 @@
 // One record of the replay's log: a line's bytes to a record. The types, then single fields, events, blocks, the line.
 #![tactic(auto)]
 
-ghost use Rattle.std.specs.Prelude.{◌≡◌, true, [], ◌≤◌, ◌<◌, length};
+ghost use Rattle.std.specs.Prelude.{◌≡◌, true, ◌∷◌, [], ◌+◌, ◌*◌, ◌≤◌, ◌<◌, ◌==◌, length, position, MatchOption};
+ghost use Rattle.std.specs.Result.{result_ok};
 ghost use Rattle.std.proofs.lemmas.List.Edits.{sets};
-ghost use Rattle.lines.specs.Text.{fields, is_hex, hex_value, number, more, all_hex, bytes, code, Cut};
-ghost use Rattle.lines.specs.Record.{told, parse, Parsed, by_letter, of_block, of_number, numbered, event_of, event_rest, plain_event, completed, complete_event, kind, named, code_kind, sense, byte_sense, sense_bytes};
+ghost use Rattle.lines.specs.Text.{fields, is_hex, hex_value, number, with_digit, more, all_hex, bytes, code};
+ghost use Rattle.lines.specs.Record.{told, parse, record_of, Parsed, by_letter, of_block, numbered, event_of, kind, named, sense};
 
-use board::{Coded, Event, Sense, Ticket};
+use board::{Event, Sense, Ticket};
 
 // A record. The bytes of a submitted block stand at the start of the lent array; here is how many they are. A unit may be
 // any number, since the desk is to refuse those above 63.
@@ -21,107 +22,80 @@ pub enum Line {
     Tick,
     Reset,
     HandBack,
-    Malformed,
 }
 
-// A field read as a decimal number.
-#[derive(Clone, Copy)]
-enum Number {
-    Is(u32),
-    Not,
-}
+// A line that is not of the form.
+#[derive(Clone, Copy, Debug, PartialEq, Eq)]
+pub struct Malformed;
 
-// A field read as a code.
-#[derive(Clone, Copy)]
-enum Code {
-    Byte(u8),
-    Bad,
-}
-
-// A field read as the kind of an event; the two further fields of a "complete" are yet to be read.
+// The kind of an event. The two further fields of a "complete" are yet to be read.
 #[derive(Clone, Copy)]
 enum Kind {
     Plain(Event),
     Completed,
-    NoKind,
-}
-
-// A field read as what became of the sense.
-#[derive(Clone, Copy)]
-enum Sensed {
-    Says(Sense),
-    Wrong,
 }
 
 // ---- single fields
 
-// Where the first field ends: at a tab, or at the end.
-fn cut(s: &[u8]) -> usize
-    ensures { Cut s.now result }
+// Where the first tab is.
+fn first_tab(s: &[u8]) -> Option<usize>
+    ensures { result ≡ position (λ c. c == 9) s.now }
 {
-    let mut i = 0;
-    while i < s.len() {
-        if s[i] == b'\t' {
-            return i;
-        }
-        i += 1;
-    }
-    i
+    s.iter().position(|c| *c == b'\t')
 }
 
-fn wide(c: u8) -> u64
-    ensures { result ≡ c }
+// The first field, and what follows its tab.
+#[tactic(auto, using(crate::proofs::Texts::fields_one, crate::proofs::Texts::fields_split))]
+fn split(s: &[u8]) -> Option<(&[u8], &[u8])>
+    ensures { MatchOption result (fields s.now ≡ s.now ∷ []) (λ p. fields s.now ≡ p.0.now ∷ fields p.1.now) }
 {
-    c as u64
+    let tab = first_tab(s)?;
+    Some((&s[..tab], &s[tab + 1..]))
+}
+
+// The number with n's digits and then this one.
+fn with_digit(n: u32, c: u8) -> Option<u32>
+    ensures { result ≡ with_digit n c }
+{
+    if !c.is_ascii_digit() {
+        return None;
+    }
+    n.checked_mul(10)?.checked_add(u32::from(c - b'0'))
 }
 
 // The number that these decimal digits make; leading zeros are not looked for.
-fn digits(s: &[u8]) -> Number
+#[tactic(auto, using(crate::proofs::Texts::more_at, crate::proofs::Texts::more_end))]
+fn digits(s: &[u8]) -> Option<u32>
     ensures { result ≡ more 0 s.now }
 {
-    let mut n: u64 = 0;
-    let mut i = 0;
-    while i < s.len() {
-        let c = wide(s[i]);
-        if c < 48 {
-            return Number::Not;
-        }
-        if 57 < c {
-            return Number::Not;
-        }
-        n = n * 10 + (c - 48);
-        if 4294967295 < n {
-            return Number::Not;
-        }
-        i += 1;
+    let mut n = 0;
+    for c in s {
+        n = with_digit(n, *c)?;
     }
-    Number::Is(n as u32)
+    Some(n)
 }
 
 // A decimal number, 0 to 4294967295, no leading zeros.
-fn read_number(s: &[u8]) -> Number
+#[tactic(auto, using(crate::proofs::Texts::numbers))]
+fn read_number(s: &[u8]) -> Option<u32>
     ensures { result ≡ number s.now }
 {
-    if s.len() == 0 {
-        return Number::Not;
+    match s {
+        [] => None,
+        [b'0', _, ..] => None,
+        _ => digits(s),
     }
-    if s[0] == b'0' {
-        if s.len() == 1 {
-            return Number::Is(0);
-        }
-        return Number::Not;
-    }
-    digits(s)
 }
 
-// An upper-case hex digit.
+// An upper-case hex digit. Of two tests with `|`, since one `matches!` of both ranges is slower.
 fn is_hex(c: u8) -> bool
     ensures { result ≡ is_hex c }
 {
-    ((b'0' <= c) & (c <= b'9')) | ((b'A' <= c) & (c <= b'F'))
+    c.is_ascii_digit() | matches!(c, b'A'..=b'F')
 }
 
 // The value of a hex digit. With no branch in it, so that a whole block is decoded many digits at a time.
+#[tactic(auto, using(crate::proofs::Texts::digit_value))]
 fn hex_digit(c: u8) -> u8
     requires { is_hex c ≡ true }
     ensures value { result ≡ hex_value c }
@@ -130,302 +104,170 @@ fn hex_digit(c: u8) -> u8
     c % 16 + 9 * (c / 64)
 }
 
+// The byte of two hex digits.
+fn byte(high: u8, low: u8) -> u8
+    requires high { is_hex high ≡ true }
+    requires low { is_hex low ≡ true }
+    ensures { result ≡ hex_value high * 16 + hex_value low }
+{
+    hex_digit(high) * 16 + hex_digit(low)
+}
+
 // A code: two hex digits.
-fn read_code(s: &[u8]) -> Code
+#[tactic(auto, unfolding(crate::specs::Text::code))]
+fn read_code(s: &[u8]) -> Option<u8>
     ensures { result ≡ code s.now }
 {
-    if s.len() != 2 {
-        return Code::Bad;
-    }
-    let a = s[0];
-    let b = s[1];
-    if is_hex(a) & is_hex(b) {
-        Code::Byte(hex_digit(a) * 16 + hex_digit(b))
-    } else {
-        Code::Bad
+    match s {
+        [high, low] if is_hex(*high) && is_hex(*low) => Some(byte(*high, *low)),
+        _ => None,
     }
 }
 
 // ---- an event
 
 // The kind that a code names.
-fn named_kind(n: u8) -> Kind
-    ensures { result ≡ named n }
+fn named(code: u8) -> Option<Kind>
+    ensures { result ≡ named code }
 {
-    match board::event_named(n as u32) {
-        Coded::Names(e) => Kind::Plain(e),
-        Coded::Nothing => Kind::NoKind,
-    }
-}
-
-fn kind_of(n: Code) -> Kind
-    ensures { result ≡ code_kind n }
-{
-    match n {
-        Code::Bad => Kind::NoKind,
-        Code::Byte(c) => named_kind(c),
-    }
+    Event::try_from(u32::from(code)).ok().map(Kind::Plain)
 }
 
 // The kind of an event: K, C or a code.
-fn read_kind(s: &[u8]) -> Kind
+#[tactic(auto, using(crate::proofs::Texts::kinds))]
+fn read_kind(s: &[u8]) -> Option<Kind>
     ensures { result ≡ kind s.now }
 {
-    if s.len() == 1 {
-        let a = s[0];
-        if a == b'K' {
-            return Kind::Plain(Event::AbortDone);
-        }
-        if a == b'C' {
-            return Kind::Completed;
-        }
-        return Kind::NoKind;
-    }
-    kind_of(read_code(s))
-}
-
-fn byte_sense(n: u32) -> Sensed
-    ensures { result ≡ byte_sense n }
-{
-    if n <= 255 {
-        Sensed::Says(Sense::Bytes(n as u8))
-    } else {
-        Sensed::Wrong
-    }
-}
-
-fn sense_of(n: Number) -> Sensed
-    ensures { result ≡ sense_bytes n }
-{
-    match n {
-        Number::Is(k) => byte_sense(k),
-        Number::Not => Sensed::Wrong,
+    match s {
+        [b'K'] => Some(Kind::Plain(Event::AbortDone)),
+        [b'C'] => Some(Kind::Completed),
+        _ => read_code(s).and_then(named),
     }
 }
 
 // What became of the sense: X failed, - none, or how many bytes came.
-fn read_sense(s: &[u8]) -> Sensed
+#[tactic(auto, using(crate::proofs::Texts::senses), unfolding(crate::specs::Record::byte_sense))]
+fn read_sense(s: &[u8]) -> Option<Sense>
     ensures { result ≡ sense s.now }
 {
-    if s.len() == 1 {
-        let a = s[0];
-        if a == b'X' {
-            return Sensed::Says(Sense::Failed);
-        }
-        if a == b'-' {
-            return Sensed::Says(Sense::None);
-        }
-        return sense_of(read_number(s));
-    }
-    sense_of(read_number(s))
-}
-
-// An event other than "complete", from its three fields.
-fn plain(t: Number, k: Kind, m: Number) -> Line
-    ensures { result ≡ told (plain_event t k m) }
-{
-    let Number::Is(ticket) = t else {
-        return Line::Malformed;
-    };
-    match k {
-        Kind::Plain(e) => match m {
-            Number::Is(moved) => Line::Event(Ticket(ticket), e, moved),
-            Number::Not => Line::Malformed,
-        },
-        Kind::Completed => Line::Malformed,
-        Kind::NoKind => Line::Malformed,
+    match s {
+        [b'X'] => Some(Sense::Failed),
+        [b'-'] => Some(Sense::None),
+        _ => u8::try_from(read_number(s)?).ok().map(Sense::Bytes),
     }
 }
 
-// A "complete" event.
-fn finished(t: Number, m: Number, c: Code, s: Sensed) -> Line
-    ensures { result ≡ told (completed t m c s) }
-{
-    let Number::Is(ticket) = t else {
-        return Line::Malformed;
-    };
-    let Number::Is(moved) = m else {
-        return Line::Malformed;
-    };
-    let Code::Byte(status) = c else {
-        return Line::Malformed;
-    };
-    let Sensed::Says(sense) = s else {
-        return Line::Malformed;
-    };
-    Line::Event(Ticket(ticket), Event::Complete { status, sense }, moved)
-}
-
-// An event of five fields: only a "complete" has so many.
-fn complete(t: Number, k: Kind, m: Number, c: Code, s: Sensed) -> Line
-    ensures { result ≡ told (complete_event t k m c s) }
-{
-    match k {
-        Kind::Plain(_) => Line::Malformed,
-        Kind::Completed => finished(t, m, c, s),
-        Kind::NoKind => Line::Malformed,
-    }
-}
-
-// An event's fourth and fifth field, where a tab follows the third.
-fn read_complete(t: Number, k: Kind, m: Number, s: &[u8]) -> Line
-    ensures { result ≡ told (event_rest t k m (fields s.now)) }
-{
-    let a = cut(s);
-    if s.len() <= a {
-        return Line::Malformed;
-    }
-    let c = read_code(&s[..a]);
-    let b = a + 1;
-    let after = &s[b..];
-    let e = cut(after);
-    if e < after.len() {
-        return Line::Malformed;
-    }
-    complete(t, k, m, c, read_sense(after))
-}
-
-// What follows the letter E and a tab.
-fn read_event(s: &[u8]) -> Line
+// What follows the letter E and a tab. The last field is all that is left: with a tab in it, it is no number and no sense.
+#[tactic(auto, using(crate::proofs::Records::events))]
+fn read_event(s: &[u8]) -> Option<Line>
     ensures { result ≡ told (event_of (fields s.now)) }
 {
-    let a = cut(s);
-    if s.len() <= a {
-        return Line::Malformed;
+    let (ticket, s) = split(s)?;
+    let (kind, s) = split(s)?;
+    let ticket = Ticket(read_number(ticket)?);
+    match read_kind(kind)? {
+        Kind::Plain(event) => Some(Line::Event(ticket, event, read_number(s)?)),
+        Kind::Completed => {
+            let (moved, s) = split(s)?;
+            let (status, sense) = split(s)?;
+            let moved = read_number(moved)?;
+            let status = read_code(status)?;
+            let sense = read_sense(sense)?;
+            Some(Line::Event(ticket, Event::Complete { status, sense }, moved))
+        }
     }
-    let t = read_number(&s[..a]);
-    let b = a + 1;
-    let second = &s[b..];
-    let d = cut(second);
-    if second.len() <= d {
-        return Line::Malformed;
-    }
-    let k = read_kind(&second[..d]);
-    let e = d + 1;
-    let third = &second[e..];
-    let f = cut(third);
-    let m = read_number(&third[..f]);
-    if third.len() <= f {
-        return plain(t, k, m);
-    }
-    let g = f + 1;
-    read_complete(t, k, m, &third[g..])
 }
 
 // ---- a block
 
+// Whether all are hex digits. It looks at each, where `all` would stop at the first that is none, so that a whole block
+// is looked at many digits at a time.
+#[tactic(auto, using(crate::proofs::Texts::hex_next, crate::proofs::Texts::hex_end))]
 fn all_hex(s: &[u8]) -> bool
     ensures { result ≡ all_hex s.now }
 {
     let mut ok = true;
-    let mut i = 0;
-    while i < s.len() {
-        ok = ok & is_hex(s[i]);
-        i += 1;
+    for c in s {
+        ok &= is_hex(*c);
     }
     ok
 }
 
 // The bytes that these hex digits make, two to a byte, to the start of the lent array.
+#[tactic(auto, using(crate::proofs::Texts::hex_at, crate::proofs::Texts::decode_next, crate::proofs::Texts::decode_end))]
 fn decode(s: &[u8], block: &mut [u8; 200])
     requires { (length s.now ≤ 400) × (all_hex s.now ≡ true) }
     ensures { block.new ≡ sets block.old 0 (bytes s.now) }
 {
-    let n = s.len() / 2;
-    let mut i = 0;
-    while i < n {
-        block[i] = hex_digit(s[2 * i]) * 16 + hex_digit(s[2 * i + 1]);
-        i += 1;
+    for i in 0..s.len() / 2 {
+        block[i] = byte(s[2 * i], s[2 * i + 1]);
     }
 }
 
 // What follows the letter S and a tab. All the digits are looked at before any byte is stored.
-fn read_block(s: &[u8], block: &mut [u8; 200]) -> Line
+#[tactic(auto, using(crate::proofs::Records::block_odd, crate::proofs::Records::block_bad))]
+fn read_block(s: &[u8], block: &mut [u8; 200]) -> Option<Line>
     requires { length s.now ≤ 400 }
     ensures { Parsed (of_block s.now) block.old block.new result }
 {
-    if s.len() % 2 != 0 {
-        return Line::Malformed;
-    }
-    let ok = all_hex(s);
-    if !ok {
-        return Line::Malformed;
+    if s.len() % 2 != 0 || !all_hex(s) {
+        return None;
     }
     decode(s, block);
-    Line::Submit(s.len() / 2)
+    Some(Line::Submit(s.len() / 2))
 }
 
 // ---- the line
 
 // A letter with no field after it.
-fn alone(c: u8) -> Line
-    ensures { result ≡ told (by_letter c []) }
+#[tactic(auto, unfolding(crate::specs::Record::by_letter, crate::specs::Record::numbered, crate::specs::Record::event_of))]
+fn alone(letter: u8) -> Option<Line>
+    ensures { result ≡ told (by_letter letter []) }
 {
-    if c == b'N' {
-        return Line::Send;
+    match letter {
+        b'N' => Some(Line::Send),
+        b'T' => Some(Line::Tick),
+        b'B' => Some(Line::Reset),
+        b'H' => Some(Line::HandBack),
+        _ => None,
     }
-    if c == b'T' {
-        return Line::Tick;
-    }
-    if c == b'B' {
-        return Line::Reset;
-    }
-    if c == b'H' {
-        return Line::HandBack;
-    }
-    Line::Malformed
 }
 
 // A letter with one number after it.
-fn with_number(c: u8, n: Number) -> Line
-    ensures { result ≡ told (of_number (numbered c) n) }
+#[tactic(auto, unfolding(crate::specs::Record::numbered))]
+fn with_number(letter: u8, n: u32) -> Option<Line>
+    ensures { result ≡ told (numbered letter n) }
 {
-    let Number::Is(k) = n else {
-        return Line::Malformed;
-    };
-    if c == b'A' {
-        return Line::Abort(Ticket(k));
+    match letter {
+        b'A' => Some(Line::Abort(Ticket(n))),
+        b'F' => Some(Line::Freeze(n)),
+        b'R' => Some(Line::Release(n)),
+        _ => None,
     }
-    if c == b'F' {
-        return Line::Freeze(k);
-    }
-    if c == b'R' {
-        return Line::Release(k);
-    }
-    Line::Malformed
 }
 
-// A letter other than S, with fields after it.
-fn followed(c: u8, s: &[u8]) -> Line
-    requires { c ≡ 83 → ⊥ }
-    ensures { result ≡ told (by_letter c (fields s.now)) }
+// A line of at most 400 bytes.
+#[tactic(auto, using(crate::proofs::Records::line_none, crate::proofs::Records::line_bad))]
+fn read_line(line: &[u8], block: &mut [u8; 200]) -> Option<Line>
+    requires { length line.now ≤ 400 }
+    ensures { Parsed (record_of (fields line.now)) block.old block.new result }
 {
-    if c == b'E' {
-        return read_event(s);
+    match line {
+        [letter] => alone(*letter),
+        [b'S', b'\t', digits @ ..] => read_block(digits, block),
+        [b'E', b'\t', event @ ..] => read_event(event),
+        [letter, b'\t', number @ ..] => with_number(*letter, read_number(number)?),
+        _ => None,
     }
-    with_number(c, read_number(s))
 }
 
 // One line, without its line feed, as a record. The bytes of a block go to the start of the lent array.
-#[tactic(auto, using(crate::proofs::Overlong::parse_long))]
-pub fn parse_line(line: &[u8], block: &mut [u8; 200]) -> Line
-    ensures { Parsed (parse line.now) block.old block.new result }
+#[tactic(auto, using(crate::proofs::Overlong::parse_long, crate::proofs::Records::parse_short))]
+pub fn parse_line(line: &[u8], block: &mut [u8; 200]) -> Result<Line, Malformed>
+    ensures { Parsed (parse line.now) block.old block.new (result_ok result) }
 {
     if 400 < line.len() {
-        return Line::Malformed;
+        return Err(Malformed);
     }
-    if line.len() == 0 {
-        return Line::Malformed;
-    }
-    let c = line[0];
-    if line.len() == 1 {
-        return alone(c);
-    }
-    if line[1] != b'\t' {
-        return Line::Malformed;
-    }
-    if c == b'S' {
-        return read_block(&line[2..], block);
-    }
-    followed(c, &line[2..])
+    read_line(line, block).ok_or(Malformed)
 }
