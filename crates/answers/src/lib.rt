@@ -11,7 +11,7 @@ mod text;
 pub use text::Text;
 
 use board::{Handed, NoSuchUnit, NotHanded, Refusal, Sending, Sent, Ticket, UnableToAbort, Unreported};
-use text::{Code, Field, Refused};
+use text::{Code, Field};
 
 // A letter and one field.
 fn line<F: Field>(c: u8, f: F, text: &mut Text)
@@ -59,44 +59,28 @@ pub fn sending(a: Sending, text: &mut Text)
 pub fn reporting(a: Result<(), Unreported>, text: &mut Text)
     ensures { text.new ≡ print letter.E (reporting_says a) }
 {
-    match a {
-        Ok(()) => line(b'E', 0u32, text),
-        Err(why) => line(b'E', Refused(u8::from(why)), text),
-    }
+    line(b'E', a.map(|()| 0).map_err(u8::from), text);
 }
 
 // A
 pub fn aborting(a: Result<(), UnableToAbort>, text: &mut Text)
     ensures { text.new ≡ print letter.A (aborting_says a) }
 {
-    match a {
-        Ok(()) => line(b'A', 0u32, text),
-        Err(why) => line(b'A', Refused(u8::from(why)), text),
-    }
-}
-
-fn freezing_or_releasing(c: u8, a: Result<bool, NoSuchUnit>, text: &mut Text)
-    requires { c ≡ letter.S → ⊥ }
-    ensures { text.new ≡ print c (freezing_says a) }
-{
-    match a {
-        Ok(was_frozen) => line(c, u32::from(was_frozen), text),
-        Err(why) => line(c, Refused(u8::from(why)), text),
-    }
+    line(b'A', a.map(|()| 0).map_err(u8::from), text);
 }
 
 // F
 pub fn freezing(a: Result<bool, NoSuchUnit>, text: &mut Text)
     ensures { text.new ≡ print letter.F (freezing_says a) }
 {
-    freezing_or_releasing(b'F', a, text);
+    line(b'F', a.map(u32::from).map_err(u8::from), text);
 }
 
 // R
 pub fn releasing(a: Result<bool, NoSuchUnit>, text: &mut Text)
     ensures { text.new ≡ print letter.R (freezing_says a) }
 {
-    freezing_or_releasing(b'R', a, text);
+    line(b'R', a.map(u32::from).map_err(u8::from), text);
 }
 
 // T
@@ -127,7 +111,7 @@ pub fn handing_back(a: Result<Handed, NotHanded>, text: &mut Text)
             text.field(told.residual);
             text.push(b'\n');
         }
-        Err(why) => line(b'H', Refused(u8::from(why)), text),
+        Err(why) => line(b'H', Err(u8::from(why)), text),
     }
 }
 

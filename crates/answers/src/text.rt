@@ -1,5 +1,5 @@
 // One line of text as it is written, and what a field of it may hold.
-ghost use Rattle.std.specs.Prelude.{◌≡◌, List, ℕ, [], ◌∷◌, ◌++◌, ◌+◌, ◌≤◌, ◌<◌, length, take};
+ghost use Rattle.std.specs.Prelude.{◌≡◌, List, ℕ, [], ◌∷◌, ◌++◌, ◌+◌, ◌≤◌, ◌<◌, length, take, Ok, Err};
 ghost use Rattle.std.proofs.lemmas.List.Edits.{sets};
 ghost use Rattle.answers.specs.Answer.{digits, places, decimal, signed, hex_digit, hex, refusal};
 
@@ -37,7 +37,7 @@ impl Text {
     pub fn as_slice(&self) -> &[u8]
         ensures { (result.now ≡ self.now) × (length self.now ≤ 64) }
     {
-        &self.bytes[..self.length]
+        &self.all()[..self.length]
     }
 
     // All 64 bytes, for a reader that copies a known number of them: what is written comes first.
@@ -175,19 +175,16 @@ impl Field for Code {
     }
 }
 
-// A refusal's number.
-#[derive(Clone, Copy)]
-pub(crate) struct Refused(pub(crate) u8);
-
-impl Field for Refused {
-    ghost shows = { λ r. refusal r.0 };
+// A number, or that of a refusal: two hex digits below 100.
+impl Field for Result<u32, u8> {
+    ghost shows = { λ r. elim r [ Ok n ↦ decimal n | Err why ↦ refusal why ] };
 
     #[tactic(auto, unfolding(crate::specs::Answer::refusal))]
     fn put(self, text: &mut Text) {
-        if self.0 < 100 {
-            Code(self.0).put(text);
-        } else {
-            text.decimal(u32::from(self.0));
+        match self {
+            Ok(n) => n.put(text),
+            Err(why) if why < 100 => Code(why).put(text),
+            Err(why) => u32::from(why).put(text),
         }
     }
 }

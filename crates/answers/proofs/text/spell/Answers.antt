@@ -1,7 +1,6 @@
 -- `answers::text::spell` meets its contract. Assumes nothing.
 use Rattle.std.proofs.Common.{sym, ◌∙◌}
 use Rattle.answers.proofs.Puts.{digits_next, digits_end}
-use native.Mathlib.Omega.{arith}
 use Rattle.answers.proofs.text.spell.Goals as goal
 
 pub loop-i-preserved : goal.loop-i-preserved

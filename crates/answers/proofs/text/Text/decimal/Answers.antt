@@ -1,5 +1,5 @@
 -- `answers::text::Text::decimal` meets its contract. Assumes nothing.
-use Rattle.std.proofs.Common.{arith, rules}
+use Rattle.std.proofs.Common.{rules}
 use Rattle.answers.proofs.Puts.{spelled}
 use Rattle.answers.proofs.text.Text.decimal.Goals as goal
 
