@@ -77,9 +77,10 @@ impl Text {
         requires { length self.old + 10 ≤ 64 }
         ensures { (self.new ≡ self.old ++ decimal n) × (length (decimal n) ≤ 10) }
     {
+        let at = self.length;
         let k = places_of(n);
-        spell(&mut self.bytes, self.length, k, n);
-        self.length += k;
+        spell(&mut self.bytes, at, k, n);
+        self.length = at + k;
     }
 
     // A tab and a field.
@@ -120,6 +121,7 @@ fn places_of(n: u32) -> usize
 }
 
 // The last k digits of n.
+#[tactic(auto, using(crate::proofs::Puts::digits_next, crate::proofs::Puts::digits_end))]
 fn spell(out: &mut [u8; 64], at: usize, k: usize, n: u32)
     requires { at + k ≤ 64 }
     ensures { out.new ≡ sets out.old at (digits k n) }
@@ -170,8 +172,11 @@ impl Field for Code {
 
     #[tactic(auto, unfolding(crate::specs::Answer::hex))]
     fn put(self, text: &mut Text) {
-        text.push(hex_digit(self.0 / 16));
-        text.push(hex_digit(self.0 % 16));
+        // The place is read once: two pushes are slower.
+        let at = text.length;
+        text.bytes[at] = hex_digit(self.0 / 16);
+        text.bytes[at + 1] = hex_digit(self.0 % 16);
+        text.length = at + 2;
     }
 }
 
