@@ -8,9 +8,10 @@ ghost use Rattle.answers.specs.Answer.{after_tabs, print, unclear, head};
 
 mod text;
 
+use board::{
+    Handed, NoSuchUnit, NotHanded, Refusal, Sending, Sent, Ticket, UnableToAbort, Unreported,
+};
 pub use text::Text;
-
-use board::{Handed, NoSuchUnit, NotHanded, Refusal, Sending, Sent, Ticket, UnableToAbort, Unreported};
 use text::{Code, Field};
 
 // A letter and one field.
@@ -42,7 +43,13 @@ pub fn sending(a: Sending, text: &mut Text)
 {
     text.begin(b'N');
     match a.sent {
-        Some(Sent { ticket, unit, cdb: _ }) => {
+        Some(
+            Sent {
+                ticket,
+                unit,
+                cdb: _,
+            },
+        ) => {
             text.field(ticket.0);
             text.field(u32::from(unit.0));
         }
