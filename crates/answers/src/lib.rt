@@ -15,6 +15,7 @@ pub use text::Text;
 use text::{Code, Field};
 
 // A letter and one field.
+#[inline]
 fn line<F: Field>(c: u8, f: F, text: &mut Text)
     ensures { text.new ≡ c ∷ after_tabs (F.shows f ∷ []) }
 {
