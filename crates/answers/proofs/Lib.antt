@@ -1,4 +1,2 @@
--- What is proved of the definitions: laws for the crates above, then what the functions' proofs use.
-pub mod Written
+-- What the proofs of the functions use.
 pub mod Puts
-pub mod Signs

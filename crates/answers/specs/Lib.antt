@@ -1,4 +1,3 @@
--- Document 01's answers: the letters, the line that answers a record, and what a function that writes one promises.
+-- Document 01's answers: the letters, and the line that answers a record.
 pub mod Letters
 pub mod Answer
-pub mod Put
