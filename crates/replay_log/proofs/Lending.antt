@@ -1,28 +1,34 @@
 -- A part of the store that is lent comes back in its place. Assumes nothing.
+use Rattle.std.specs.Prelude.{Option, Some, None, IfSome}
+use Rattle.std.specs.declared.ops.Range.{Range}
+use Rattle.std.specs.Option.{unwrap_or}
 use Prim.Native.Nat.{ℕ, ◌+◌, ◌-◌, ◌<◌, ◌≤◌}
 use native.Mathlib.Omega.{arith}
 use mathlib.Core.Path.{◌≡◌, sym, ap, ◌∙◌, subst}
-use mathlib.Core.List.{List, ◌++◌, append_assoc}
+use mathlib.Core.List.{List, ◌++◌}
 use lib.ListN.{length, get_or, take, drop, length-drop}
-use lib.Seq.{sets, sets-eq, length-sets, drop-drop, length-take-le, ext_get_or, get_or-take, get_or-drop}
+use lib.Seq.{sets, length-sets, length-take-le, ext_get_or, get_or-take, get_or-drop}
 use Rattle.board.specs.declared.HandingBack.{HandingBack}
 use Rattle.board.specs.Answers.{handing_back_says}
 use Rattle.board.specs.Plain.{◌≤?◌, ◌<?◌}
 use Rattle.board.proofs.Choose.{by_cases, at_most, not_at_most, below, not_below}
-use Rattle.copies.proofs.Copied.{sets_off, paste_reads}
+use Rattle.copies.proofs.Slotted.{put_back}
+use Rattle.copies.proofs.Copied.{sets_off, paste_reads, nowhere}
 use Rattle.desk.specs.Promise.{HandsBack}
-use Rattle.replay_log.specs.Parts.{part, Lends}
+
+-- the bytes from a up to e
+abbrev pub part : (a e : ℕ) → List ℕ → List ℕ
+part a e l = take (e - a) (drop a l)
+
+-- hand back with a part of the store; the rest of the store stays as it was
+pub record Lends (m m' store store' : List ℕ) (a e : ℕ) (r : HandingBack) : Type 0 where
+  pub hands_back : HandsBack m m' (part a e store) (part a e store') (handing_back_says r)
+  pub size : length store' ≡ length store
+  pub outside : (k : ℕ) → (a ≤ k → k < e → ⊥) → get_or store' k 0 ≡ get_or store k 0
 
 -- a part has as many bytes as its bounds say
 part_size : (a e : ℕ) (l : List ℕ) → a ≤ e → e ≤ length l → length (part a e l) ≡ e - a
 part_size a e l h g = length-take-le (e - a) (drop a l) (let d = length-drop a l in omega arith)
-
--- put back, it is a run of stores
-put_back : (a e : ℕ) (l x : List ℕ) → a ≤ e → e ≤ length l → length x ≡ e - a → take a l ++ (x ++ drop (e - a) (drop a l)) ≡ sets l a x
-put_back a e l x h g n =
-    let s : a + length x ≤ length l = omega arith in
-    let k : a + (e - a) ≡ a + length x = omega arith in
-    ap (λ (r : List ℕ). take a l ++ (x ++ r)) (drop-drop (e - a) a l ∙ ap (λ (j : ℕ). drop j l) k) ∙ (sym (append_assoc (take a l) x (drop (a + length x) l)) ∙ sym (sets-eq x l a s))
 
 pub lends : (m m' l x : List ℕ) (a e : ℕ) (r : HandingBack) → a ≤ e → e ≤ length l → length x ≡ length (part a e l) → HandsBack m m' (part a e l) x (handing_back_says r)
     → Lends m m' l (take a l ++ (x ++ drop (e - a) (drop a l))) a e r
@@ -49,3 +55,8 @@ as_it_was l l' a e n f p = ext_get_or 0 l' l n (λ k h. by_cases (a ≤? k)
 
     within : (k : ℕ) → a ≤ k → k < e → get_or l' k 0 ≡ get_or l k 0
     within k o q = sym (read l' k o q) ∙ (ap (λ (y : List ℕ). get_or y (k - a) 0) p ∙ read l k o q)
+
+-- a part that was found, or no bytes, lies within the store
+pub part_within : (o : Option (Range ℕ)) → IfSome o (λ r. (r.start ≤ r.end) × (r.end ≤ 6400)) → ((unwrap_or o nowhere).start ≤ (unwrap_or o nowhere).end) × ((unwrap_or o nowhere).end ≤ 6400)
+part_within None h = (omega arith, omega arith)
+part_within (Some r) h = h
