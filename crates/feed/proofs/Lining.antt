@@ -5,7 +5,8 @@ use mathlib.Core.Path.{◌≡◌, refl, sym, ap, ◌∙◌, subst}
 use mathlib.Core.Logic.{◌≢◌}
 use mathlib.Core.List.{List, [], ◌∷◌, ◌++◌, append_assoc, append-nil}
 use lib.ListN.{length, get_or, take, drop, take-append-drop, length-drop}
-use lib.Seq.{take_all, take-nil, drop-cons, drop-drop, get_or-take, get_or-drop, length-take-le, take-append-add, take-append-le, sets-eq, length-sets}
+use Rattle.std.specs.List.{copy_within}
+use lib.Seq.{paste, take-paste, take-take, take_all, take-nil, drop-cons, drop-drop, get_or-take, get_or-drop, length-take-le, take-append-add, take-append-le, sets-eq, length-sets}
 use Rattle.board.specs.Plain.{◌=?◌, ◌≤?◌}
 use Rattle.board.proofs.Choose.{if_ind, by_cases, same, at_most, not_at_most}
 use Rattle.lines.specs.Record.{parse}
@@ -160,3 +161,16 @@ feeds_as {m} {m'} {left = left} {text = text} e f = subst (λ (b : List ℕ). Fe
 
 pub ends_as : {m : Memory} {left left' text : List ℕ} → left ≡ left' → Ends m left text → Ends m left' text
 ends_as {m} {text = text} e f = subst (λ (b : List ℕ). Ends m b text) e f
+
+-- what is kept of the bytes from a on
+pub kept_over : (buf : List ℕ) (a e n : ℕ) → a ≤ e → e ≤ length buf → n ≡ min (e - a) 401 → take n (copy_within buf a (a + n) 0) ≡ take 401 (take (e - a) (drop a buf))
+kept_over buf a e n h g z =
+    let d = length-drop a buf in
+    let k : a + n - a ≡ n = omega arith in
+    let l = length-take-le (e - a) (drop a buf) (omega arith) in
+    let o : 0 + n ≡ n = omega arith in
+    rw k (ap (λ (j : ℕ). take j (paste buf 0 (drop a buf) n)) (sym o) ∙ take-paste buf 0 (drop a buf) n (omega arith) (omega arith)
+    ∙ sym (take-take n (e - a) (drop a buf) (omega arith))
+    ∙ (by_cases (e - a ≤? 401)
+    (λ c. let o : e - a ≤ 401 = at_most c in take_all n _ (omega arith) ∙ sym (take_all 401 _ (omega arith)))
+    (λ c. let o : 401 < e - a = not_at_most c in let m : n ≡ 401 = omega arith in ap (λ (j : ℕ). take j (take (e - a) (drop a buf))) m)))
