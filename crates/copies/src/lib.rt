@@ -30,6 +30,7 @@ pub fn copy(dst: &mut [u8], at: usize, src: &[u8])
     }
 }
 
+#[derive(Drop)]
 pub struct Copies {
     pub book: [u32; BOOK],
     pub store: [u8; STORE],

@@ -14,6 +14,7 @@ use rows::WORDS;
 use std::marker::Model;
 use std::ops::Range;
 
+#[derive(Drop)]
 pub struct Replay {
     mem: [u32; WORDS],
     copies: Copies,
