@@ -1,6 +1,7 @@
 -- A block taken in, and one handed back: the definition's answers. Assumes nothing.
-use Rattle.std.specs.Prelude.{if◌then◌else◌, slice_range}
+use Rattle.std.specs.Prelude.{if◌then◌else◌}
 use Rattle.std.specs.Option.{unwrap_or}
+use Rattle.std.specs.List.{between}
 use Prim.Native.Nat.{ℕ, ◌+◌, ◌<◌, ◌≤◌}
 use native.Mathlib.Omega.{arith}
 use mathlib.Core.Path.{◌≡◌, refl, sym, ap, ◌∙◌, subst}
@@ -40,7 +41,7 @@ use Rattle.replay_log.specs.Promise.{Replies}
 use Rattle.replay_log.specs.Parts.{book_after, store_after, lies_for, book_without}
 use Rattle.replay_log.proofs.Live.{alive, live_shown, none_zero, at_most_32, at_most_one}
 use Rattle.replay_log.proofs.Keeping.{Copied, unchanged, kept_copy, dropped_copy}
-use Rattle.replay_log.proofs.Lending.{part, Lends, as_it_was}
+use Rattle.replay_log.proofs.Lending.{Lends, as_it_was}
 use Rattle.replay_log.proofs.Replying.{replies, neither_refused}
 
 abbrev one : Bool → ℕ
@@ -156,29 +157,29 @@ pub gave : (w w' b s s' : List ℕ) (r : Rest) (l : Looking) (a e : ℕ) (given 
 unfolding respond shown copy_of
 gave w w' b s s' r l a e given text text' n looks ea ee lent put = go given lent put
   where
-    its_copy : Holds (at_rest w b s r) → copy_of_first (copy_of b s) (view w r).finished ≡ part a e s
+    its_copy : Holds (at_rest w b s r) → copy_of_first (copy_of b s) (view w r).finished ≡ between a e s
     its_copy h =
         first_seen l (view w r) b s (looks.says h.desk)
         ∙ bytes_there s (lies_for l b)
-        ∙ (λ i. slice_range s (sym ea i) (sym ee i))
+        ∙ (λ i. between (sym ea i) (sym ee i) s)
 
-    calls : (h : Holds (at_rest w b s r)) → respond (shown (at_rest w b s r)) record_of.hand_back ≡ answered (shown (at_rest w b s r)) H (hand_back (part a e s))
+    calls : (h : Holds (at_rest w b s r)) → respond (shown (at_rest w b s r)) record_of.hand_back ≡ answered (shown (at_rest w b s r)) H (hand_back (between a e s))
     calls h = ap (λ (y : List ℕ). answered (shown (at_rest w b s r)) H (hand_back y)) (its_copy h)
 
     refuses : (k : ℕ) (given : HandingBack) → handing_back_says given ≡ refused k → book_without given b ≡ b → Lends w w' s s' a e given → Put 64 text text' 0 n (print H (handing_back_says given))
         → Replies (at_rest w b s r) (at_rest w' (book_without given b) s' r) record_of.hand_back text text' n
     refuses k given q z lent put =
         let same_store : s' ≡ s = as_it_was s s' a e lent.size lent.outside (lent.hands_back.unwritten k q) in
-        rw z (replies (at_rest w b s r) (at_rest w' b s' r) record_of.hand_back H (hand_back (part a e s)) (handing_back_says given) (part a e s') text text' n (lent.hands_back.does r) calls
-        (λ h. subst (λ (y : List ℕ). Copied b s b y (handing_back_says given) (part a e s')) (sym same_store) (unchanged b s (handing_back_says given) (part a e s') h.book_size h.store_size (ap given_by q ∙ (neither_refused k).gives) (ap handed_by q ∙ (neither_refused k).hands))) put)
+        rw z (replies (at_rest w b s r) (at_rest w' b s' r) record_of.hand_back H (hand_back (between a e s)) (handing_back_says given) (between a e s') text text' n (lent.hands_back.does r) calls
+        (λ h. subst (λ (y : List ℕ). Copied b s b y (handing_back_says given) (between a e s')) (sym same_store) (unchanged b s (handing_back_says given) (between a e s') h.book_size h.store_size (ap given_by q ∙ (neither_refused k).gives) (ap handed_by q ∙ (neither_refused k).hands))) put)
 
     go : (given : HandingBack) → Lends w w' s s' a e given → Put 64 text text' 0 n (print H (handing_back_says given))
         → Replies (at_rest w b s r) (at_rest w' (book_without given b) s' r) record_of.hand_back text text' n
     go (handing_back.Handed t x) lent put =
-        replies _ _ record_of.hand_back H (hand_back (part a e s)) (handed t x) (part a e s') text text' n (lent.hands_back.does r) calls
+        replies _ _ record_of.hand_back H (hand_back (between a e s)) (handed t x) (between a e s') text text' n (lent.hands_back.does r) calls
         (λ h. let d = lent.hands_back.does r in
-        let its = first_handed l (view w r) (part a e s) b t x (looks.says h.desk) (d.says h.desk) in
-        dropped_copy b s s' (part a e s') t x h.book_size h.store_size (old_ticket h d) (just_one h d) lent.size
+        let its = first_handed l (view w r) (between a e s) b t x (looks.says h.desk) (d.says h.desk) in
+        dropped_copy b s s' (between a e s') t x h.book_size h.store_size (old_ticket h d) (just_one h d) lent.size
         (λ i there. record {
           size = lent.size;
           same_bytes = λ k f. lent.outside k (λ o q. outside_copy b t.0 i k there f (subst (λ (y : ℕ). y ≤ k) (ea ∙ ap (λ y. (unwrap_or y nowhere).start) its) o) (subst (λ (y : ℕ). k < y) (ee ∙ ap (λ y. (unwrap_or y nowhere).end) its) q));
