@@ -1,5 +1,5 @@
 -- How many slots pass a test, before and after a store, and what that tells of a search. Assumes nothing.
-use Rattle.std.specs.Prelude.{if◌then◌else◌}
+use Rattle.std.specs.Prelude.{if◌then◌else◌, Option, Some, None}
 use Prim.Native.Nat.{ℕ, zero, suc, ◌+◌, ◌<◌, ◌≤◌}
 use native.Mathlib.Omega.{arith}
 use mathlib.Core.Path.{◌≡◌, refl, sym, ap, subst}
@@ -11,7 +11,8 @@ use lib.Seq.{get_or-set_same, get_or-set_other}
 use Rattle.board.specs.Plain.{◌=?◌}
 use Rattle.board.proofs.Choose.{by_cases, same, differ}
 use Rattle.copies.specs.Slots.{number_in, slot_of, slots_passing}
-use Rattle.copies.proofs.Copied.{unless_same, Finds, finds, finds_none, finds_slot}
+use Rattle.copies.proofs.Slotted.{slot_none}
+use Rattle.copies.proofs.Copied.{unless_same}
 
 abbrev one : Bool → ℕ
 one c = if c then 1 else 0
@@ -74,20 +75,20 @@ abbrev pub has : ℕ → ℕ → Bool
 has t x = x =? t
 
 -- with fewer than 32 used, a free slot is found
-pub free_slot : (book : List ℕ) → slots_passing 32 used book < 32 → (slot_of book 0 < 32) × (number_in book (slot_of book 0) ≡ 0)
-free_slot book h = go (finds_slot book 0)
+pub free_slot : (book : List ℕ) → length book ≡ 64 → slots_passing 32 used book < 32 → (i : ℕ) × (slot_of book 0 ≡ Some i)
+free_slot book z h = go (slot_of book 0) refl
   where
-    go : {r : ℕ} → Finds book 0 0 r → (r < 32) × (number_in book r ≡ 0)
-    go (finds l k e) = (k, e)
-    go (finds_none z f) = let p = passing_all 32 used book (λ i k. ap not (unless_same (f i (omega arith) k))) in absurd (omega arith)
+    go : (o : Option ℕ) → slot_of book 0 ≡ o → (i : ℕ) × (slot_of book 0 ≡ Some i)
+    go (Some i) e = (i, e)
+    go None e = let p = passing_all 32 used book (λ i k. ap not (unless_same (slot_none book 0 z e i k))) in absurd (omega arith)
 
 -- a number that a slot has is found
-pub found_slot : (book : List ℕ) (t : ℕ) → 1 ≤ slots_passing 32 (has t) book → (slot_of book t < 32) × (number_in book (slot_of book t) ≡ t)
-found_slot book t h = go (finds_slot book t)
+pub found_slot : (book : List ℕ) (t : ℕ) → length book ≡ 64 → 1 ≤ slots_passing 32 (has t) book → (i : ℕ) × (slot_of book t ≡ Some i)
+found_slot book t z h = go (slot_of book t) refl
   where
-    go : {r : ℕ} → Finds book t 0 r → (r < 32) × (number_in book r ≡ t)
-    go (finds l k e) = (k, e)
-    go (finds_none z f) = let p = passing_nobody 32 (has t) book (λ i k. unless_same (f i (omega arith) k)) in absurd (omega arith)
+    go : (o : Option ℕ) → slot_of book t ≡ o → (i : ℕ) × (slot_of book t ≡ Some i)
+    go (Some i) e = (i, e)
+    go None e = let p = passing_nobody 32 (has t) book (λ i k. unless_same (slot_none book t z e i k)) in absurd (omega arith)
 
 -- a number that no slot has
 pub nowhere_has : (book : List ℕ) (t : ℕ) → slots_passing 32 (has t) book ≡ 0 → (i : ℕ) → i < 32 → number_in book i ≢ t

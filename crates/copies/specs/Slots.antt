@@ -1,9 +1,10 @@
 -- The slots of the book and the store, and what each function makes of them. Assumes nothing.
-use Rattle.std.specs.Prelude.{ℕ, zero, suc, ◌+◌, ◌*◌, Bool, ◌&&◌, List, length, get_or, set, take, drop, if◌then◌else◌}
+use Rattle.std.specs.Option.{option_and_then}
+use Rattle.std.specs.Prelude.{ℕ, zero, suc, ◌+◌, ◌*◌, Bool, Option, Some, None, List, [], length, get_or, set, take, position, slice_range, if◌then◌else◌}
+use Rattle.std.specs.declared.ops.Range.{Range}
 use Rattle.std.proofs.lemmas.List.Edits.{sets}
 use Rattle.board.specs.declared.Ticket.{Ticket}
-use Rattle.board.specs.Plain.{◌=?◌, ◌<?◌, ◌≤?◌}
-use Rattle.copies.specs.declared.Lies.{Lies}
+use Rattle.board.specs.Plain.{◌=?◌, ◌≤?◌}
 
 -- the number of slot i: a ticket, or 0 while it is free; and the length of its copy
 abbrev pub number_in : List ℕ → ℕ → ℕ
@@ -12,28 +13,25 @@ number_in book i = get_or book i 0
 abbrev pub length_in : List ℕ → ℕ → ℕ
 length_in book i = get_or book (32 + i) 0
 
--- of n slots from i on, the first with this number; 32 if none has it
-unfoldable pub slot_from : (n : ℕ) → List ℕ → (number i : ℕ) → ℕ
-slot_from zero book t i = 32
-slot_from (suc n) book t i = if number_in book i =? t then i else slot_from n book t (suc i)
-
-unfoldable pub slot_of : List ℕ → (number : ℕ) → ℕ
-slot_of book t = slot_from 32 book t 0
-
-abbrev pub nowhere : Lies
-nowhere = record { at = 0; length = 0 }
+-- the first slot with this number
+unfoldable pub slot_of : List ℕ → (number : ℕ) → Option ℕ
+slot_of book t = position (λ n. n =? t) (take 32 book)
 
 -- where the copy in slot i lies
-unfoldable pub lies_in : List ℕ → ℕ → Lies
-lies_in book i = if 32 ≤? i then nowhere else if 200 <? length_in book i then nowhere else record { at = 200 * i; length = length_in book i }
+unfoldable pub lies_in : List ℕ → ℕ → Option (Range ℕ)
+lies_in book i = if length_in book i ≤? 200 then Some record { start = 200 * i; end = 200 * i + length_in book i } else None
 
--- where the copy of the ticket's block lies; its length is 0 if there is none
-unfoldable pub lies : List ℕ → (ticket : ℕ) → Lies
-lies book t = if t =? 0 then nowhere else lies_in book (slot_of book t)
+-- where the copy of the ticket's block lies
+unfoldable pub lies : List ℕ → (ticket : ℕ) → Option (Range ℕ)
+lies book t = if t =? 0 then None else option_and_then (lies_in book) (slot_of book t)
+
+abbrev pub bytes_in : (store : List ℕ) → Option (Range ℕ) → List ℕ
+bytes_in store None = []
+bytes_in store (Some r) = slice_range store r.start r.end
 
 -- the copy of the ticket's block, [] if there is none
 unfoldable pub copy_of : (book store : List ℕ) → Ticket → List ℕ
-copy_of book store t = take (lies book t.0).length (drop (lies book t.0).at store)
+copy_of book store t = bytes_in store (lies book t.0)
 
 -- ---- what the functions store
 
@@ -41,20 +39,32 @@ copy_of book store t = take (lies book t.0).length (drop (lies book t.0).at stor
 unfoldable pub pasted : List ℕ → (at : ℕ) → List ℕ → List ℕ
 pasted dst at src = if at + length src ≤? length dst then sets dst at src else dst
 
--- a free slot is there, and a block of n bytes has room in it
-unfoldable pub can_keep : List ℕ → (n : ℕ) → Bool
-can_keep book n = slot_of book 0 <? 32 && n ≤? 200
+-- the first free slot, for a block of n bytes that has room in it
+unfoldable pub slot_for : List ℕ → (n : ℕ) → Option ℕ
+slot_for book n = if n ≤? 200 then slot_of book 0 else None
 
 -- the book with one copy more, of n bytes; the store with it
+abbrev pub noted_in : Option ℕ → List ℕ → (ticket n : ℕ) → List ℕ
+noted_in None book t n = book
+noted_in (Some i) book t n = set (set book i t) (32 + i) n
+
 unfoldable pub noted : List ℕ → (ticket n : ℕ) → List ℕ
-noted book t n = let i = slot_of book 0 in if can_keep book n then set (set book i t) (32 + i) n else book
+noted book t n = noted_in (slot_for book n) book t n
+
+abbrev pub stored_in : Option ℕ → (store block : List ℕ) → List ℕ
+stored_in None store block = store
+stored_in (Some i) store block = pasted store (200 * i) block
 
 unfoldable pub store_with : (book store block : List ℕ) → List ℕ
-store_with book store block = if can_keep book (length block) then pasted store (200 * slot_of book 0) block else store
+store_with book store block = stored_in (slot_for book (length block)) store block
 
 -- the book with the ticket's slot free
+abbrev pub freed_in : Option ℕ → List ℕ → List ℕ
+freed_in None book = book
+freed_in (Some i) book = set book i 0
+
 unfoldable pub forgotten : List ℕ → (ticket : ℕ) → List ℕ
-forgotten book t = if slot_of book t <? 32 then set book (slot_of book t) 0 else book
+forgotten book t = freed_in (slot_of book t) book
 
 -- ---- counting
 

@@ -1,41 +1,37 @@
--- Laws of runs with no line feed. Assumes nothing.
-use mathlib.Core.List.{List}
-use mathlib.Core.Path.{◌≡◌, refl, subst}
-use mathlib.Core.Bool.{Bool, true, false, ◌||◌}
-use Prim.Native.Nat.{ℕ, ◌+◌, ◌≤◌, ◌<◌}
+-- What a search for a line feed tells of a buffer. Assumes nothing.
+use Prim.Native.Nat.{ℕ, ◌+◌, ◌-◌, ◌≤◌, ◌<◌}
 use native.Mathlib.Omega.{arith}
-use borrow.Author.Tests.{eqb-false, ltb-true, ltb-false}
-use lib.Dec.{eqb, ltb}
-use lib.ListN.{get_or}
+use mathlib.Core.Path.{◌≡◌, ap, sym, ◌∙◌, subst}
+use mathlib.Core.List.{List}
+use lib.ListN.{length, get_or, drop, length-drop}
+use lib.Seq.{get_or-drop}
+use Rattle.std.specs.Prelude.{Option, Some, None, slice_range}
+use Rattle.std.proofs.lemmas.Slice.{between_to_end}
+use Rattle.board.proofs.Choose.{same}
+use Rattle.memchr.specs.Find.{IsFirstByte, is_byte}
 use Rattle.feed.specs.LineEnds.{Clear}
 
-pub clear_none : (s : List ℕ) (a e : ℕ) → e ≤ a → Clear s a e
-clear_none s a e h = record { clear = λ k l m z. omega arith }
+-- a byte seen from a on
+from : (s : List ℕ) (a k : ℕ) → a ≤ k → get_or (drop a s) (k - a) 0 ≡ get_or s k 0
+from s a k h = let e : a + (k - a) ≡ k = omega arith in get_or-drop a s (k - a) 0 ∙ ap (λ (n : ℕ). get_or s n 0) e
 
-pub clear_join : (s : List ℕ) (a b e : ℕ) → Clear s a b → Clear s b e → Clear s a e
-clear_join s a b e p q = record { clear = λ k l m z. by_side k l m z (ltb k b) refl }
-  where
-    by_side : (k : ℕ) → a ≤ k → k < e → get_or s k 0 ≡ 10 → (t : Bool) → ltb k b ≡ t → ⊥
-    by_side k l m z true h = p.clear k l (ltb-true k b h) z
-    by_side k l m z false h = q.clear k (ltb-false k b h) m z
+-- what a search from a on found
+abbrev Found : (s : List ℕ) (a : ℕ) → Option ℕ → Type 0
+Found s a r = IsFirstByte (is_byte 10) (slice_range s a (length s)) r
 
-one : (s : List ℕ) (i : ℕ) → (get_or s i 0 ≡ 10 → ⊥) → Clear s i (i + 1)
-one s i h = record { clear = λ k l m z. let e : k ≡ i = omega arith in h (subst (λ (n : ℕ). get_or s n 0 ≡ 10) e z) }
+behind : (s : List ℕ) (a : ℕ) (r : Option ℕ) → Found s a r → IsFirstByte (is_byte 10) (drop a s) r
+behind s a r h = subst (λ (l : List ℕ). IsFirstByte (is_byte 10) l r) (between_to_end s a (length s) (omega arith)) h
 
-pub clear_one : (s : List ℕ) (a i : ℕ) → Clear s a i → (get_or s i 0 ≡ 10 → ⊥) → Clear s a (i + 1)
-clear_one s a i p h = clear_join s a i (i + 1) p (one s i h)
+-- a line feed n bytes further
+pub line_clear : (s : List ℕ) (a n : ℕ) → Found s a (Some n) → Clear s a (a + n)
+line_clear s a n g = let h = behind s a (Some n) g in record { clear = λ k l m z. h.0.before (k - a) (omega arith) (omega arith) (ap (is_byte 10) (from s a k l ∙ z)) }
 
--- a turn of the test of some bytes: f is false only if all so far are clear
-pub test_next : (s : List ℕ) (a i : ℕ) (f : Bool) → (f ≡ false → Clear s a i) → (f || eqb (get_or s i 0) 10) ≡ false → Clear s a (i + 1)
-test_next s a i true h e = absurd (let z : ◌≡◌ {A = ℕ} 0 1 = cc in omega arith)
-test_next s a i false h e = clear_one s a i (h refl) (eqb-false (get_or s i 0) 10 e)
+pub line_within : (s : List ℕ) (a n : ℕ) → Found s a (Some n) → a + n < length s
+line_within s a n g = let h = behind s a (Some n) g in let d = length-drop a s in let l = h.0.high in omega arith
 
-pub test_at : (s : List ℕ) (a j : ℕ) (f : Bool) → (f ≡ false → Clear s a (a + j)) → (f || eqb (get_or s (a + j) 0) 10) ≡ false → Clear s a (a + (j + 1))
-test_at s a j f h e =
-    let n : a + j + 1 ≡ a + (j + 1) = omega arith in
-    subst (λ (z : ℕ). Clear s a z) n (test_next s a (a + j) f h e)
+pub line_here : (s : List ℕ) (a n : ℕ) → Found s a (Some n) → get_or s (a + n) 0 ≡ 10
+line_here s a n g = let h = behind s a (Some n) g in sym (get_or-drop a s n 0) ∙ same h.1
 
-pub clear_all : (s : List ℕ) (a j n : ℕ) → j ≤ n → n ≤ j → Clear s a (a + j) → Clear s a (a + n)
-clear_all s a j n h k p =
-    let e : j ≡ n = omega arith in
-    subst (λ (z : ℕ). Clear s a (a + z)) e p
+-- none
+pub rest_clear : (s : List ℕ) (a : ℕ) → Found s a None → Clear s a (length s)
+rest_clear s a g = record { clear = λ k l m z. behind s a None g (k - a) (omega arith) (let d = length-drop a s in omega arith) (ap (is_byte 10) (from s a k l ∙ z)) }

@@ -1,5 +1,4 @@
 -- Laws of a log fed piece by piece, and the proofs of each function.
 pub mod Clears
 pub mod Lining
-pub mod Moving
 pub mod Whole

@@ -1,11 +1,14 @@
 -- Bytes fed to a replay, a line at a time. Assumes nothing.
-use Prim.Native.Nat.{ℕ, zero, suc, ◌+◌, ◌-◌, ◌<◌, ◌≤◌, min}
+use Prim.Native.Nat.{ℕ, suc, ◌+◌, ◌-◌, ◌<◌, ◌≤◌, min}
 use native.Mathlib.Omega.{arith}
 use mathlib.Core.Path.{◌≡◌, refl, sym, ap, ◌∙◌, subst}
 use mathlib.Core.Logic.{◌≢◌}
 use mathlib.Core.List.{List, [], ◌∷◌, ◌++◌, append_assoc, append-nil}
 use lib.ListN.{length, get_or, take, drop, take-append-drop, length-drop}
-use lib.Seq.{take_all, take-nil, drop-cons, drop-drop, get_or-take, get_or-drop, length-take-le, take-append-add, take-append-le, sets-eq, length-sets}
+use Rattle.std.specs.List.{between, copy_within}
+use Rattle.std.proofs.lemmas.Slice.{between_is}
+use Rattle.std.proofs.lemmas.List.Edits.{length-between, get_or-between}
+use lib.Seq.{paste, take-paste, take-take, take_all, drop-cons, drop-drop, get_or-drop, length-take-le, take-append-add, take-append-le, sets-eq, length-sets}
 use Rattle.board.specs.Plain.{◌=?◌, ◌≤?◌}
 use Rattle.board.proofs.Choose.{if_ind, by_cases, same, at_most, not_at_most}
 use Rattle.lines.specs.Record.{parse}
@@ -43,24 +46,21 @@ fed_line s k (c ∷ cs) more f =
 
 -- ---- a line within a buffer
 
-abbrev pub part : (a e : ℕ) → List ℕ → List ℕ
-part a e l = take (e - a) (drop a l)
-
-part_clear : (s : List ℕ) (a e : ℕ) → e ≤ length s → Clear s a e → NoFeed (part a e s)
+part_clear : (s : List ℕ) (a e : ℕ) → e ≤ length s → Clear s a e → NoFeed (between a e s)
 part_clear s a e g c i h z =
-    let size = length-take-le (e - a) (drop a s) (let d = length-drop a s in omega arith) in
-    c.clear (a + i) (omega arith) (omega arith) (sym (get_or-take (e - a) (drop a s) i 0 (omega arith) ∙ get_or-drop a s i 0) ∙ z)
+    let size = length-between s a e g in
+    c.clear (a + i) (omega arith) (omega arith) (sym (get_or-between s a e i 0 (omega arith)) ∙ z)
 
 drop_clear : (s : List ℕ) (a : ℕ) → Clear s a (length s) → NoFeed (drop a s)
 drop_clear s a c i h z = let d = length-drop a s in c.clear (a + i) (omega arith) (omega arith) (sym (get_or-drop a s i 0) ∙ z)
 
 -- from a on, a buffer is the line up to its line feed at e, the line feed, and the rest
-cut_line : (s : List ℕ) (a e : ℕ) → a ≤ e → e < length s → get_or s e 0 ≡ 10 → drop a s ≡ part a e s ++ (10 ∷ drop (e + 1) s)
+cut_line : (s : List ℕ) (a e : ℕ) → a ≤ e → e < length s → get_or s e 0 ≡ 10 → drop a s ≡ between a e s ++ (10 ∷ drop (e + 1) s)
 cut_line s a e h g z =
     let k : a + (e - a) ≡ e = omega arith in
     let n : suc e ≡ e + 1 = omega arith in
     sym (take-append-drop (e - a) (drop a s))
-    ∙ ap (λ (x : List ℕ). part a e s ++ x)
+    ∙ ap (λ (x : List ℕ). between a e s ++ x)
     (drop-drop (e - a) a s
     ∙ (ap (λ (j : ℕ). drop j s) k
     ∙ (drop-cons s e 0 g
@@ -73,13 +73,13 @@ none_yet m s out = record { holds = λ h. h; whole = λ h. refl }
 
 pub one_more : (m₀ m m' : Memory) (s out out' : List ℕ) (a e filled n : ℕ) → a ≤ e → e < length s → Clear s a e → get_or s e 0 ≡ 10
     → SoFar m₀ m s a (take filled out)
-    → Appends m m' (part a e s) out out' filled n
+    → Appends m m' (between a e s) out out' filled n
     → SoFar m₀ m' s (e + 1) (take (filled + n) out')
 one_more m₀ m m' s out out' a e filled n l g c z so_far appends = record {
   holds = λ h. appends.holds (so_far.holds h);
   whole = λ h.
       let k = so_far.holds h in
-      let line = part a e s in
+      let line = between a e s in
       let more = drop (e + 1) s in
       so_far.whole h
       ∙ (ap (λ (x : List ℕ). after (take filled out) (fed (shown m) [] x)) (cut_line s a e l g z)
@@ -116,20 +116,14 @@ appended m m' line zeros text out filled n size room replies = record {
 
 -- ---- a piece, and the end
 
-drop_take : (a e : ℕ) (l : List ℕ) → a ≤ e → drop a (take e l) ≡ take (e - a) (drop a l)
-drop_take zero e l h = let z : e ≡ e - 0 = omega arith in ap (λ (k : ℕ). take k l) z
-drop_take (suc a) zero l h = absurd (omega arith)
-drop_take (suc a) (suc e) [] h = sym (take-nil (suc e - suc a))
-drop_take (suc a) (suc e) (x ∷ l) h = let z : e - a ≡ suc e - suc a = omega arith in drop_take a e l (omega arith) ∙ ap (λ (k : ℕ). take k (drop a l)) z
-
 -- the lines so far are all the whole ones, and what stands over was kept
 pub fed_piece : (m m' : Memory) (buf left text : List ℕ) (e at : ℕ) → e ≤ length buf → at ≤ length (take e buf) → Clear (take e buf) at (length (take e buf)) → SoFar m m' (take e buf) at text
-    → left ≡ take 401 (part at e buf) → Feeds m m' (take e buf) left text
+    → left ≡ take 401 (between at e buf) → Feeds m m' (take e buf) left text
 fed_piece m m' buf left text e at room l c so_far k = record {
   holds = so_far.holds;
   state = λ h. sym (ap (λ x. x.state) (all h));
   says = λ h. sym (append-nil text) ∙ sym (ap (λ x. x.text) (all h));
-  keeps = λ h. k ∙ (ap (take 401) (sym (drop_take at e buf (let z = length-take-le e buf room in omega arith))) ∙ ap (λ x. take 401 x.line) (sym (all h)));
+  keeps = λ h. k ∙ (ap (take 401) (between_is buf at e) ∙ ap (λ x. take 401 x.line) (sym (all h)));
 }
   where
     all : Holds m → fed (shown m) [] (take e buf) ≡ record { state = shown m'; line = drop at (take e buf); text = text ++ [] }
@@ -160,3 +154,16 @@ feeds_as {m} {m'} {left = left} {text = text} e f = subst (λ (b : List ℕ). Fe
 
 pub ends_as : {m : Memory} {left left' text : List ℕ} → left ≡ left' → Ends m left text → Ends m left' text
 ends_as {m} {text = text} e f = subst (λ (b : List ℕ). Ends m b text) e f
+
+-- what is kept of the bytes from a on
+pub kept_over : (buf : List ℕ) (a e n : ℕ) → a ≤ e → e ≤ length buf → n ≡ min (e - a) 401 → take n (copy_within buf a (a + n) 0) ≡ take 401 (take (e - a) (drop a buf))
+kept_over buf a e n h g z =
+    let d = length-drop a buf in
+    let k : a + n - a ≡ n = omega arith in
+    let l = length-take-le (e - a) (drop a buf) (omega arith) in
+    let o : 0 + n ≡ n = omega arith in
+    rw k (ap (λ (j : ℕ). take j (paste buf 0 (drop a buf) n)) (sym o) ∙ take-paste buf 0 (drop a buf) n (omega arith) (omega arith)
+    ∙ sym (take-take n (e - a) (drop a buf) (omega arith))
+    ∙ (by_cases (e - a ≤? 401)
+    (λ c. let o : e - a ≤ 401 = at_most c in take_all n _ (omega arith) ∙ sym (take_all 401 _ (omega arith)))
+    (λ c. let o : 401 < e - a = not_at_most c in let m : n ≡ 401 = omega arith in ap (λ (j : ℕ). take j (take (e - a) (drop a buf))) m)))

@@ -8,17 +8,6 @@ use Rattle.feed.specs.Feeding.{after, fed}
 pub record Clear (s : List ℕ) (a e : ℕ) : Type 0 where
   pub clear : (k : ℕ) → a ≤ k → k < e → get_or s k 0 ≡ 10 → ⊥
 
--- the search for a line feed has come from `from` to r
-pub record Skipped (s : List ℕ) (from r : ℕ) : Type 0 where
-  pub low : from ≤ r
-  pub within : r ≤ length s
-  pub none : Clear s from r
-
--- the line that begins at `from` ends at r: at its line feed, or at the end of s
-pub record LineEnd (s : List ℕ) (from r : ℕ) : Type 0 where
-  pub skipped : Skipped s from r
-  pub here : r < length s → get_or s r 0 ≡ 10
-
 -- one line was answered behind the first `filled` bytes of out
 pub record Appends (m m' : Memory) (line out out' : List ℕ) (filled n : ℕ) : Type 0 where
   pub holds : Holds m → Holds m'

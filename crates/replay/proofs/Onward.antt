@@ -1,6 +1,6 @@
 -- A fresh memory, and one more piece of input. Assumes nothing.
 use Prim.Native.Nat.{ℕ, ◌+◌}
-use mathlib.Core.Path.{◌≡◌, sym, ap, ◌∙◌, subst}
+use mathlib.Core.Path.{◌≡◌, ap, ◌∙◌, subst}
 use mathlib.Core.List.{List, [], ◌∷◌, ◌++◌}
 use lib.ListN.{take, drop}
 use lib.Seq.{take-add}
@@ -27,7 +27,3 @@ onward m n old buf left' text e k p same f = record {
   texts = p.texts ++ (text ∷ []);
   through = one_more (take k (drop e buf)) p.through (subst (λ (b : List ℕ). Feeds m n b left' text) (take-add e k buf ∙ ap (λ (l : List ℕ). l ++ take k (drop e buf)) same) f);
 }
-
--- a read that brought nothing
-pub still : (m : Memory) (old buf : List ℕ) (e : ℕ) → Progress m (take e old) → take e buf ≡ take e old → Progress m (take e buf)
-still m old buf e p same = subst (Progress m) (sym same) p

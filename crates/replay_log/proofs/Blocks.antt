@@ -1,12 +1,14 @@
 -- A block taken in, and one handed back: the definition's answers. Assumes nothing.
 use Rattle.std.specs.Prelude.{if◌then◌else◌}
-use Prim.Native.Nat.{ℕ, ◌+◌, ◌-◌, ◌<◌, ◌≤◌}
+use Rattle.std.specs.Option.{unwrap_or}
+use Rattle.std.specs.List.{between}
+use Prim.Native.Nat.{ℕ, ◌+◌, ◌<◌, ◌≤◌}
 use native.Mathlib.Omega.{arith}
 use mathlib.Core.Path.{◌≡◌, refl, sym, ap, ◌∙◌, subst}
 use mathlib.Core.Logic.{◌≢◌}
 use mathlib.Core.Bool.{Bool, true, false, not}
 use mathlib.Core.List.{List, [], ◌∷◌}
-use lib.ListN.{length, take, drop}
+use lib.ListN.{length}
 use Rattle.board.specs.declared.Ticket.{Ticket}
 use Rattle.board.specs.declared.Unit.{Unit}
 use Rattle.board.specs.declared.Told.{Told}
@@ -18,7 +20,7 @@ use Rattle.board.specs.declared.Looking.TheVariants as looking
 use Rattle.board.specs.declared.HandingBack.{HandingBack}
 use Rattle.board.specs.declared.HandingBack.TheVariants as handing_back
 use Rattle.board.specs.Plain.{◌=?◌, count}
-use Rattle.board.specs.Board.{the_ticket, Board, with_finished}
+use Rattle.board.specs.Board.{Board, with_finished}
 use Rattle.board.specs.Block.{with_told}
 use Rattle.board.specs.Answers.{Stepped, refused, taken, handed, taking_in_says, looking_says, handing_back_says, number}
 use Rattle.board.specs.Calls.{take_in, look, hand_back, step, first_of, looking, not_its_block, first_to, handing_back}
@@ -28,18 +30,18 @@ use Rattle.lines.specs.Record as record_of
 use Rattle.answers.specs.Letters.{S, H}
 use Rattle.answers.specs.Answer.{print}
 use Rattle.answers.specs.Put.{Put}
-use Rattle.copies.specs.Slots.{slots_passing, lies, copy_of}
-use Rattle.copies.proofs.Copied.{unless_same, free_ticket, outside_copy}
+use Rattle.copies.specs.Slots.{slots_passing, lies, bytes_in, copy_of}
+use Rattle.copies.proofs.Copied.{unless_same, nowhere, bytes_there, outside_copy}
 use Rattle.copies.proofs.Counted.{used, has}
 use Rattle.desk.specs.View.{Rest, the_rest, view}
 use Rattle.desk.specs.Promise.{Does, TakesIn}
 use Rattle.replay_log.specs.Replay.{copy_of_first, answered, respond}
 use Rattle.replay_log.specs.Memory.{Memory, shown, Holds}
 use Rattle.replay_log.specs.Promise.{Replies}
-use Rattle.replay_log.specs.Parts.{book_after, store_after, first_ticket, book_without, part, Lends}
+use Rattle.replay_log.specs.Parts.{book_after, store_after, lies_for, book_without}
 use Rattle.replay_log.proofs.Live.{alive, live_shown, none_zero, at_most_32, at_most_one}
 use Rattle.replay_log.proofs.Keeping.{Copied, unchanged, kept_copy, dropped_copy}
-use Rattle.replay_log.proofs.Lending.{as_it_was}
+use Rattle.replay_log.proofs.Lending.{Lends, as_it_was}
 use Rattle.replay_log.proofs.Replying.{replies, neither_refused}
 
 abbrev one : Bool → ℕ
@@ -96,20 +98,20 @@ took w w' b s lent lent' clock mark given given' (Refused why) text text' n k sh
 -- ---- handing back
 
 -- the copy lent is that of the first finished request's block: the one that the look saw
-first_seen : (l : Looking) (b : Board) (copies : Ticket → List ℕ) → looking_says l ≡ (step b look).answer → copies (the_ticket 0) ≡ [] → copy_of_first copies b.finished ≡ copies (first_ticket l)
-unfolding step looking first_of
-first_seen l b copies e z = go l b.finished e
+first_seen : (l : Looking) (b : Board) (book store : List ℕ) → looking_says l ≡ (step b look).answer → copy_of_first (copy_of book store) b.finished ≡ bytes_in store (lies_for l book)
+unfolding step looking first_of copy_of
+first_seen l b book store e = go l b.finished e
   where
-    go : (l : Looking) (line : List Finished) → looking_says l ≡ (first_of b line).answer → copy_of_first copies line ≡ copies (first_ticket l)
+    go : (l : Looking) (line : List Finished) → looking_says l ≡ (first_of b line).answer → copy_of_first (copy_of book store) line ≡ bytes_in store (lies_for l book)
     go (looking.First t address callback wanted) [] e = let n : ◌≡◌ {A = ℕ} 0 1 = cc in absurd (omega arith)
-    go looking.Empty [] e = sym z
-    go (looking.First t address callback wanted) (x ∷ more) e = ap copies (let n : x.request.ticket ≡ t = cc in n)
+    go looking.Empty [] e = refl
+    go (looking.First t address callback wanted) (x ∷ more) e = ap (copy_of book store) (let n : x.request.ticket ≡ t = cc in n)
     go looking.Empty (x ∷ more) e = let n : ◌≡◌ {A = ℕ} 0 1 = cc in absurd (omega arith)
 
 -- and it is the one handed back
-first_handed : (l : Looking) (b : Board) (s : List ℕ) (t : Ticket) (x : Told) → looking_says l ≡ (step b look).answer → handed t x ≡ (step b (hand_back s)).answer → first_ticket l ≡ t
+first_handed : (l : Looking) (b : Board) (s book : List ℕ) (t : Ticket) (x : Told) → looking_says l ≡ (step b look).answer → handed t x ≡ (step b (hand_back s)).answer → lies_for l book ≡ lies book t.0
 unfolding step looking first_of handing_back first_to
-first_handed l b s t x e f = go l b.finished e f
+first_handed l b s book t x e f = go l b.finished e f
   where
     chosen : (y : Finished) (more : List Finished) (c : Bool)
         → handed t x ≡ (if◌then◌else◌ {A = Stepped} c record { board = b; answer = refused 105; lent = s } record { board = with_finished more b; answer = handed y.request.ticket y.told; lent = with_told y.told s }).answer
@@ -117,10 +119,10 @@ first_handed l b s t x e f = go l b.finished e f
     chosen y more true f = let n : ◌≡◌ {A = ℕ} 0 1 = cc in absurd (omega arith)
     chosen y more false f = cc
 
-    go : (l : Looking) (line : List Finished) → looking_says l ≡ (first_of b line).answer → handed t x ≡ (first_to b s line).answer → first_ticket l ≡ t
+    go : (l : Looking) (line : List Finished) → looking_says l ≡ (first_of b line).answer → handed t x ≡ (first_to b s line).answer → lies_for l book ≡ lies book t.0
     go (looking.First u address callback wanted) [] e f = let n : ◌≡◌ {A = ℕ} 0 1 = cc in absurd (omega arith)
     go looking.Empty [] e f = let n : ◌≡◌ {A = ℕ} 0 1 = cc in absurd (omega arith)
-    go (looking.First u address callback wanted) (y ∷ more) e f = let n : u ≡ y.request.ticket = cc in n ∙ chosen y more (not_its_block s y) f
+    go (looking.First u address callback wanted) (y ∷ more) e f = let n : u ≡ y.request.ticket = cc in ap (λ (v : Ticket). lies book v.0) (n ∙ chosen y more (not_its_block s y) f)
     go looking.Empty (y ∷ more) e f = let n : ◌≡◌ {A = ℕ} 0 1 = cc in absurd (omega arith)
 
 -- what is known when a block was handed back
@@ -147,40 +149,40 @@ module _ {w w' b s lent lent' : List ℕ} {r : Rest} {t : Ticket} {x : Told} (h 
 -- H, with what the look saw: the copy lies from a to e
 pub gave : (w w' b s s' : List ℕ) (r : Rest) (l : Looking) (a e : ℕ) (given : HandingBack) (text text' : List ℕ) (n : ℕ)
     → Does w w r r look (looking_says l) []
-    → a ≡ (lies b (first_ticket l).0).at
-    → e ≡ (lies b (first_ticket l).0).at + (lies b (first_ticket l).0).length
+    → a ≡ (unwrap_or (lies_for l b) nowhere).start
+    → e ≡ (unwrap_or (lies_for l b) nowhere).end
     → Lends w w' s s' a e given
     → Put 64 text text' 0 n (print H (handing_back_says given))
     → Replies (at_rest w b s r) (at_rest w' (book_without given b) s' r) record_of.hand_back text text' n
 unfolding respond shown copy_of
 gave w w' b s s' r l a e given text text' n looks ea ee lent put = go given lent put
   where
-    its_copy : Holds (at_rest w b s r) → copy_of_first (copy_of b s) (view w r).finished ≡ part a e s
+    its_copy : Holds (at_rest w b s r) → copy_of_first (copy_of b s) (view w r).finished ≡ between a e s
     its_copy h =
-        let k : (lies b (first_ticket l).0).length ≡ e - a = omega arith in
-        first_seen l (view w r) (copy_of b s) (looks.says h.desk) (free_ticket b s (the_ticket 0) refl)
-        ∙ (let o = sym ea in λ i. take (k i) (drop (o i) s))
+        first_seen l (view w r) b s (looks.says h.desk)
+        ∙ bytes_there s (lies_for l b)
+        ∙ (λ i. between (sym ea i) (sym ee i) s)
 
-    calls : (h : Holds (at_rest w b s r)) → respond (shown (at_rest w b s r)) record_of.hand_back ≡ answered (shown (at_rest w b s r)) H (hand_back (part a e s))
+    calls : (h : Holds (at_rest w b s r)) → respond (shown (at_rest w b s r)) record_of.hand_back ≡ answered (shown (at_rest w b s r)) H (hand_back (between a e s))
     calls h = ap (λ (y : List ℕ). answered (shown (at_rest w b s r)) H (hand_back y)) (its_copy h)
 
     refuses : (k : ℕ) (given : HandingBack) → handing_back_says given ≡ refused k → book_without given b ≡ b → Lends w w' s s' a e given → Put 64 text text' 0 n (print H (handing_back_says given))
         → Replies (at_rest w b s r) (at_rest w' (book_without given b) s' r) record_of.hand_back text text' n
     refuses k given q z lent put =
         let same_store : s' ≡ s = as_it_was s s' a e lent.size lent.outside (lent.hands_back.unwritten k q) in
-        rw z (replies (at_rest w b s r) (at_rest w' b s' r) record_of.hand_back H (hand_back (part a e s)) (handing_back_says given) (part a e s') text text' n (lent.hands_back.does r) calls
-        (λ h. subst (λ (y : List ℕ). Copied b s b y (handing_back_says given) (part a e s')) (sym same_store) (unchanged b s (handing_back_says given) (part a e s') h.book_size h.store_size (ap given_by q ∙ (neither_refused k).gives) (ap handed_by q ∙ (neither_refused k).hands))) put)
+        rw z (replies (at_rest w b s r) (at_rest w' b s' r) record_of.hand_back H (hand_back (between a e s)) (handing_back_says given) (between a e s') text text' n (lent.hands_back.does r) calls
+        (λ h. subst (λ (y : List ℕ). Copied b s b y (handing_back_says given) (between a e s')) (sym same_store) (unchanged b s (handing_back_says given) (between a e s') h.book_size h.store_size (ap given_by q ∙ (neither_refused k).gives) (ap handed_by q ∙ (neither_refused k).hands))) put)
 
     go : (given : HandingBack) → Lends w w' s s' a e given → Put 64 text text' 0 n (print H (handing_back_says given))
         → Replies (at_rest w b s r) (at_rest w' (book_without given b) s' r) record_of.hand_back text text' n
     go (handing_back.Handed t x) lent put =
-        replies _ _ record_of.hand_back H (hand_back (part a e s)) (handed t x) (part a e s') text text' n (lent.hands_back.does r) calls
+        replies _ _ record_of.hand_back H (hand_back (between a e s)) (handed t x) (between a e s') text text' n (lent.hands_back.does r) calls
         (λ h. let d = lent.hands_back.does r in
-        let its : first_ticket l ≡ t = first_handed l (view w r) (part a e s) t x (looks.says h.desk) (d.says h.desk) in
-        dropped_copy b s s' (part a e s') t x h.book_size h.store_size (old_ticket h d) (just_one h d)
-        record {
+        let its = first_handed l (view w r) (between a e s) b t x (looks.says h.desk) (d.says h.desk) in
+        dropped_copy b s s' (between a e s') t x h.book_size h.store_size (old_ticket h d) (just_one h d) lent.size
+        (λ i there. record {
           size = lent.size;
-          same_bytes = λ k f. lent.outside k (λ o q. outside_copy b t.0 k f (subst (λ (y : ℕ). y ≤ k) (ea ∙ ap (λ y. (lies b y.0).at) its) o) (subst (λ (y : ℕ). k < y) (ee ∙ ap (λ y. (lies b y.0).at + (lies b y.0).length) its) q));
-        }) put
+          same_bytes = λ k f. lent.outside k (λ o q. outside_copy b t.0 i k there f (subst (λ (y : ℕ). y ≤ k) (ea ∙ ap (λ y. (unwrap_or y nowhere).start) its) o) (subst (λ (y : ℕ). k < y) (ee ∙ ap (λ y. (unwrap_or y nowhere).end) its) q));
+        })) put
     go handing_back.Empty lent put = refuses 104 handing_back.Empty refl refl lent put
     go handing_back.NotItsBlock lent put = refuses 105 handing_back.NotItsBlock refl refl lent put

@@ -1,5 +1,5 @@
 -- What taking in and handing back do to the program's copies: the definition's copies, and a slot for each live request. Assumes nothing.
-use Rattle.std.specs.Prelude.{if◌then◌else◌}
+use Rattle.std.specs.Prelude.{if◌then◌else◌, Some}
 use Prim.Native.Nat.{ℕ, ◌+◌, ◌*◌, ◌<◌, ◌≤◌}
 use native.Mathlib.Omega.{arith}
 use mathlib.Core.Path.{◌≡◌, refl, sym, ap, ◌∙◌, subst}
@@ -16,7 +16,7 @@ use Rattle.board.specs.Answers.{Answer, taken, handed}
 use Rattle.board.specs.Demand3.{given_by, handed_by}
 use Rattle.board.proofs.Choose.{by_cases, same, differ, itself, one_ticket}
 use Rattle.copies.specs.Slots.{number_in, length_in, slot_of, slots_passing, copy_of, noted, store_with, forgotten, pasted}
-use Rattle.copies.proofs.Slotted.{pasted_fits, kept_there, can_keep_it, forgotten_found}
+use Rattle.copies.proofs.Slotted.{pasted_fits, slot_some, kept_there, forgotten_found}
 use Rattle.copies.proofs.Copied.{unless_same, free_ticket, Elsewhere, paste_elsewhere, paste_reads, other_copy, own_copy, no_copy}
 use Rattle.copies.proofs.Counted.{used, has, passing_past, passing_set, free_slot, found_slot, nowhere_has}
 use Rattle.replay_log.specs.Replay.{copies_after}
@@ -76,13 +76,19 @@ kept_copy b s lent t p q short n room new = record {
 }
   where
     i : ℕ
-    i = slot_of b 0
+    i = (free_slot b p room).0
+
+    free : slot_of b 0 ≡ Some i
+    free = (free_slot b p room).1
 
     li : i < 32
-    li = (free_slot b room).0
+    li = (slot_some b 0 i free).0
 
     empty : number_in b i ≡ 0
-    empty = (free_slot b room).1
+    empty = (slot_some b 0 i free).1
+
+    size : length (noted_at b i t.0 (length lent) p li) ≡ 64
+    size = simp length-set p
 
     b' : List ℕ
     b' = noted b t.0 (length lent)
@@ -91,7 +97,7 @@ kept_copy b s lent t p q short n room new = record {
     s' = store_with b s lent
 
     there : (b' ≡ set (set b i t.0) (32 + i) (length lent)) × (s' ≡ pasted s (200 * i) lent)
-    there = kept_there b s lent t.0 i refl (can_keep_it b (length lent) i refl li short)
+    there = kept_there b s lent t.0 i free short
 
     eb : b' ≡ set (set b i t.0) (32 + i) (length lent)
     eb = there.0
@@ -100,7 +106,7 @@ kept_copy b s lent t p q short n room new = record {
     es = there.1 ∙ pasted_fits s lent (200 * i) (omega (arith, li))
 
     mine : copy_of b' s' t ≡ lent
-    mine = rw (eb, es) (own_copy (noted_at b i t.0 (length lent) p li) (sets s (200 * i) lent) lent i t n li
+    mine = rw (eb, es) (own_copy (noted_at b i t.0 (length lent) p li) (sets s (200 * i) lent) lent i t size n li
         (own_number b i t.0 (length lent) p li)
         (λ j d h k. nowhere_has b t.0 new j h (sym (other_number b i t.0 (length lent) p li j d h) ∙ k))
         (own_length b i t.0 (length lent) p li) short (paste_reads lent s (200 * i) (omega (arith, li))))
@@ -108,7 +114,7 @@ kept_copy b s lent t p q short n room new = record {
     others : (u : Ticket) → t.0 ≢ u.0 → copy_of b' s' u ≡ copy_of b s u
     others u d = by_cases (u.0 =? 0)
         (λ z. free_ticket b' s' u (same z) ∙ sym (free_ticket b s u (same z)))
-        (λ z. rw (eb, es) (other_copy b (noted_at b i t.0 (length lent) p li) s (sets s (200 * i) lent) i u li
+        (λ z. rw (eb, es) (other_copy b (noted_at b i t.0 (length lent) p li) s (sets s (200 * i) lent) i u p size
         (λ k. differ z (sym k ∙ empty))
         (λ k. d (sym (own_number b i t.0 (length lent) p li) ∙ k))
         (other_number b i t.0 (length lent) p li)
@@ -117,27 +123,30 @@ kept_copy b s lent t p q short n room new = record {
 
 -- a block handed back: its slot is free again. The store may have changed in that slot's room.
 pub dropped_copy : (b s s' lent : List ℕ) (t : Ticket) (x : Told) → length b ≡ 64 → length s ≡ 6400 → t.0 ≢ 0
-    → slots_passing 32 (has t.0) b ≡ 1 → Elsewhere (slot_of b t.0) s s'
+    → slots_passing 32 (has t.0) b ≡ 1 → length s' ≡ length s → ((i : ℕ) → slot_of b t.0 ≡ Some i → Elsewhere i s s')
     → Copied b s (forgotten b t.0) s' (handed t x) lent
 unfolding copies_after any count given_by handed_by
-dropped_copy b s s' lent t x p q n once e = record {
+dropped_copy b s s' lent t x p q n once z e = record {
   book_size = ap (λ (l : List ℕ). length l) eb ∙ (length-set b i 0 ∙ p);
-  store_size = e.size ∙ q;
+  store_size = z ∙ q;
   balance = λ test z. let h = here test z in rw eb (omega arith);
   copies = λ u. by_cases (same_ticket t u) (λ k. rw k (subst (λ (y : Ticket). copy_of b' s' y ≡ []) (one_ticket (same k)) gone)) (λ k. rw k (others u (differ k)));
 }
   where
     i : ℕ
-    i = slot_of b t.0
+    i = (found_slot b t.0 p (omega arith)).0
+
+    found : slot_of b t.0 ≡ Some i
+    found = (found_slot b t.0 p (omega arith)).1
 
     at_slot : (i < 32) × (number_in b i ≡ t.0)
-    at_slot = found_slot b t.0 (omega arith)
+    at_slot = slot_some b t.0 i found
 
     b' : List ℕ
     b' = forgotten b t.0
 
     eb : b' ≡ set b i 0
-    eb = forgotten_found b t.0 i refl at_slot.0
+    eb = forgotten_found b t.0 i found
 
     here : (test : ℕ → Bool) → test 0 ≡ false → slots_passing 32 test (set b i 0) + one (test t.0) ≡ slots_passing 32 test b
     here test z =
@@ -158,9 +167,9 @@ dropped_copy b s s' lent t x p q n once e = record {
     others : (u : Ticket) → t.0 ≢ u.0 → copy_of b' s' u ≡ copy_of b s u
     others u d = by_cases (u.0 =? 0)
         (λ z. free_ticket b' s' u (same z) ∙ sym (free_ticket b s u (same z)))
-        (λ z. rw eb (other_copy b (set b i 0) s s' i u at_slot.0
+        (λ z. rw eb (other_copy b (set b i 0) s s' i u p (length-set b i 0 ∙ p)
         (λ k. d (sym at_slot.1 ∙ k))
         (λ k. differ z (sym k ∙ get_or-set_same b i 0 0 (omega (arith, at_slot.0))))
         (λ j o h. get_or-set_other b i j 0 0 o)
         (λ j o h. get_or-set_other b i (32 + j) 0 0 (omega (arith, at_slot.0)))
-        e))
+        (e i found)))

@@ -150,6 +150,9 @@ begins w f = record {
     nobody : (test : ℕ → Bool) → alive test fresh ≡ 0
     nobody test = weigh_count (on test) (live fresh) ∙ (live_mass (one (on test)) fresh ∙ fresh_mass (one (on test)))
 
+pub begins_at : (m : Memory) → Fresh m.words → m.book ≡ replicate 64 0 → m.store ≡ replicate 6400 0 → m.rest ≡ the_rest 0 (the_unit 63) 0 → Begins m
+begins_at m f b s r = subst Begins (λ i. record { words = m.words; book = sym b i; store = sym s i; rest = sym r i }) (begins m.words f)
+
 -- ---- what was read
 
 -- a reply to what the parser handed over is one to the record that was read

@@ -3,8 +3,7 @@ use Rattle.std.specs.Prelude.{ℕ, ◌≡◌, Bool, false, List, length}
 use Rattle.board.specs.Plain.{count}
 use Rattle.board.specs.Board.{live}
 use Rattle.copies.specs.Slots.{slots_passing, copy_of}
-use Rattle.desk.specs.View.{Rest, the_rest, view, Valid}
-use Rattle.replay_log.specs.declared.Counters.{Counters}
+use Rattle.desk.specs.View.{Rest, view, Valid}
 use Rattle.replay_log.specs.Replay.{State}
 
 -- the desk's words, the book and the store of the copies, and what goes in by value
@@ -13,12 +12,6 @@ pub record Memory : Type 0 where
   pub book : List ℕ
   pub store : List ℕ
   pub rest : Rest
-
-abbrev pub rest_of : Counters → Rest
-rest_of c = the_rest c.clock c.mark c.given
-
-abbrev pub memory : (words book store : List ℕ) → Counters → Memory
-memory m b s c = record { words = m; book = b; store = s; rest = rest_of c }
 
 -- the state that it shows
 unfoldable pub shown : Memory → State

@@ -1,268 +1,138 @@
-// One line of a replay's log in, one line out. The state is lent: the desk's words, and the book and the store of the copies of live
-// requests' blocks.
+// One line of a replay's log in, one line out. The state: the desk's words, the copies of live requests' blocks, and what the desk's
+// calls take and give by value.
 #![tactic(auto)]
 
-ghost use Rattle.std.specs.Prelude.{◌≡◌, List, ℕ, ◌≤◌, min, length};
-ghost use Rattle.lines.specs.Record.{parse, submit, send, event, abort, freeze, release, tick, reset, hand_back, malformed};
-ghost use Rattle.replay_log.specs.Memory.{memory};
+ghost use Rattle.std.specs.Prelude.{◌≡◌, ◌≤◌, length, IfSome};
+ghost use Rattle.lines.specs.Record.{parse, submit, hand_back};
 ghost use Rattle.replay_log.specs.Promise.{Begins, Replies};
-ghost use Rattle.replay_log.specs.Parts.{first_ticket, book_after, store_after, book_without, Lends};
+ghost use Rattle.replay_log.specs.Parts.{book_after, store_after, lies_for, book_without};
 
-use board::{Event, HandingBack, Looking, TakingIn, Ticket, Unit};
-use copies::{BOOK, STORE};
+use board::{HandingBack, Looking, TakingIn, Unit};
+use copies::Copies;
 use lines::Line;
 use rows::WORDS;
+use std::marker::Model;
+use std::ops::Range;
 
-// What the desk's calls take and give by value: the clock, the rotation mark, the last ticket given.
-#[derive(Clone, Copy)]
-pub struct Counters {
-    pub clock: u32,
-    pub mark: Unit,
-    pub given: u32,
+#[derive(Drop)]
+pub struct Replay {
+    mem: [u32; WORDS],
+    copies: Copies,
+    clock: u32,
+    mark: Unit,
+    given: u32,
 }
 
-// What a line leaves by value: the counters, and how many bytes its answer has.
-#[derive(Clone, Copy)]
-pub struct Reply {
-    pub counters: Counters,
-    pub length: usize,
+impl Model for Replay {
+    ghost use Rattle.desk.specs.View.{the_rest};
+    ghost use Rattle.replay_log.specs.Memory.{Memory};
+
+    ghost Value = { Memory };
+
+    ghost view = { λ r. record { words = r.mem; book = r.copies.book; store = r.copies.store; rest = the_rest r.clock r.mark r.given } };
 }
-
-// ---- a fresh state
-
-// A fresh board and no copies, whatever the memory held.
-pub fn fresh(mem: &mut [u32; WORDS], book: &mut [u32; BOOK], store: &mut [u8; STORE]) -> Counters
-    ensures { Begins (memory mem.new book.new store.new result) }
-{
-    desk::fresh(mem);
-    copies::clear(book);
-    *store = [0; 6400];
-    Counters {
-        clock: 0,
-        mark: Unit(63),
-        given: 0,
-    }
-}
-
-// ---- one record
 
 // An accepted block is copied, as it stands then.
-fn keep(answer: TakingIn, book: &mut [u32; BOOK], store: &mut [u8; STORE], block: &[u8])
-    ensures { (book.new ≡ book_after answer book.old (length block.now)) × (store.new ≡ store_after answer book.old store.old block.now) }
+fn keep(answer: TakingIn, copies: &mut Copies, block: &[u8])
+    ensures { (copies.new.book ≡ book_after answer copies.old.book (length block.now)) × (copies.new.store ≡ store_after answer copies.old.book copies.old.store block.now) }
 {
-    match answer {
-        TakingIn::Taken(ticket) => copies::keep(book, store, ticket, block),
-        TakingIn::Refused(why) => {}
+    if let TakingIn::Taken(ticket) = answer {
+        copies.keep(ticket, block);
     }
 }
 
-// S: a request is taken in.
-fn take_in(
-    mem: &mut [u32; WORDS],
-    book: &mut [u32; BOOK],
-    store: &mut [u8; STORE],
-    counters: Counters,
-    block: &mut [u8],
-    text: &mut [u8; 64],
-) -> Reply
-    requires { length block.old ≤ 200 }
-    ensures { Replies (memory mem.old book.old store.old counters) (memory mem.new book.new store.new result.counters) (submit block.old) text.old text.new result.length }
+// Where the copy of the first finished request's block lies.
+fn find(seen: Looking, copies: &Copies) -> Option<Range<usize>>
+    ensures value { result ≡ lies_for seen copies.now.book }
+    ensures bounds { IfSome result (λ r. (r.start ≤ r.end) × (r.end ≤ 6400)) }
 {
-    let took = desk::take_in(mem, block, counters.given);
-    let answer = took.answer;
-    keep(answer, book, store, block);
-    let mut next = counters;
-    next.given = took.given;
-    Reply {
-        counters: next,
-        length: answers::taking_in(answer, text),
+    match seen {
+        Looking::First { ticket, .. } => copies.find(ticket),
+        Looking::Empty => None,
     }
-}
-
-// N: the next request is sent.
-fn send(mem: &mut [u32; WORDS], counters: Counters, text: &mut [u8; 64]) -> Reply
-    ensures { (b s : List ℕ) → Replies (memory mem.old b s counters) (memory mem.new b s result.counters) send text.old text.new result.length }
-{
-    let went = desk::send(mem, counters.clock, counters.mark);
-    let answer = went.answer;
-    let mark = went.mark;
-    let next = Counters {
-        clock: counters.clock,
-        mark,
-        given: counters.given,
-    };
-    Reply {
-        counters: next,
-        length: answers::sending(answer, text),
-    }
-}
-
-// E: an event on a ticket.
-fn report(
-    mem: &mut [u32; WORDS],
-    counters: Counters,
-    ticket: Ticket,
-    what: Event,
-    moved: u32,
-    text: &mut [u8; 64],
-) -> Reply
-    ensures { (b s : List ℕ) → Replies (memory mem.old b s counters) (memory mem.new b s result.counters) (event ticket what moved) text.old text.new result.length }
-{
-    let answer = desk::report(mem, ticket, what, moved);
-    Reply {
-        counters,
-        length: answers::reporting(answer, text),
-    }
-}
-
-// A: abort by ticket.
-fn abort(mem: &mut [u32; WORDS], counters: Counters, ticket: Ticket, text: &mut [u8; 64]) -> Reply
-    ensures { (b s : List ℕ) → Replies (memory mem.old b s counters) (memory mem.new b s result.counters) (abort ticket) text.old text.new result.length }
-{
-    let answer = desk::abort(mem, ticket);
-    Reply {
-        counters,
-        length: answers::aborting(answer, text),
-    }
-}
-
-// F: a unit is frozen.
-fn freeze(mem: &mut [u32; WORDS], counters: Counters, n: u32, text: &mut [u8; 64]) -> Reply
-    ensures { (b s : List ℕ) → Replies (memory mem.old b s counters) (memory mem.new b s result.counters) (freeze n) text.old text.new result.length }
-{
-    let answer = desk::freeze(mem, board::unit_numbered(n));
-    Reply {
-        counters,
-        length: answers::freezing(answer, text),
-    }
-}
-
-// R: a unit is released.
-fn release(mem: &mut [u32; WORDS], counters: Counters, n: u32, text: &mut [u8; 64]) -> Reply
-    ensures { (b s : List ℕ) → Replies (memory mem.old b s counters) (memory mem.new b s result.counters) (release n) text.old text.new result.length }
-{
-    let answer = desk::release(mem, board::unit_numbered(n));
-    Reply {
-        counters,
-        length: answers::releasing(answer, text),
-    }
-}
-
-// T: the clock's next second.
-fn tick(mem: &mut [u32; WORDS], counters: Counters, text: &mut [u8; 64]) -> Reply
-    ensures { (b s : List ℕ) → Replies (memory mem.old b s counters) (memory mem.new b s result.counters) tick text.old text.new result.length }
-{
-    let clock = desk::tick(mem, counters.clock);
-    let mut next = counters;
-    next.clock = clock;
-    Reply {
-        counters: next,
-        length: answers::ticking(clock, text),
-    }
-}
-
-// B: a bus reset.
-fn reset(mem: &mut [u32; WORDS], counters: Counters, text: &mut [u8; 64]) -> Reply
-    ensures { (b s : List ℕ) → Replies (memory mem.old b s counters) (memory mem.new b s result.counters) reset text.old text.new result.length }
-{
-    desk::reset(mem);
-    Reply {
-        counters,
-        length: answers::resetting(text),
-    }
-}
-
-// The ticket of the first finished request, 0 if there is none.
-fn first_ticket(a: Looking) -> Ticket
-    ensures { result ≡ first_ticket a }
-{
-    match a {
-        Looking::First {
-            ticket,
-            address,
-            callback,
-            wanted,
-        } => ticket,
-        Looking::Empty => Ticket(0),
-    }
-}
-
-// Hand back with the part of the store from a to e.
-fn lend(mem: &mut [u32; WORDS], store: &mut [u8], a: usize, e: usize) -> HandingBack
-    requires { (a ≤ e) × (e ≤ length store.old) }
-    ensures { Lends mem.old mem.new store.old store.new a e result }
-{
-    desk::hand_back(mem, &mut store[a..e])
 }
 
 // The copy of a block that was handed back is dropped.
-fn drop_copy(answer: HandingBack, book: &mut [u32; BOOK])
-    ensures { book.new ≡ book_without answer book.old }
+fn forget(answer: HandingBack, copies: &mut Copies)
+    ensures { (copies.new.book ≡ book_without answer copies.old.book) × (copies.new.store ≡ copies.old.store) }
 {
-    match answer {
-        HandingBack::Handed { ticket, told } => copies::forget(book, ticket),
-        HandingBack::Empty => {}
-        HandingBack::NotItsBlock => {}
+    if let HandingBack::Handed { ticket, .. } = answer {
+        copies.forget(ticket);
     }
 }
 
-// H: the first finished request is handed back, with the program's own copy of its block.
-fn hand_back(
-    mem: &mut [u32; WORDS],
-    book: &mut [u32; BOOK],
-    store: &mut [u8; STORE],
-    counters: Counters,
-    text: &mut [u8; 64],
-) -> Reply
-    ensures { Replies (memory mem.old book.old store.old counters) (memory mem.new book.new store.new result.counters) hand_back text.old text.new result.length }
-{
-    let ticket = first_ticket(desk::look(mem));
-    let lies = copies::find(book, ticket);
-    let a = lies.at;
-    let e = a + lies.length;
-    let answer = lend(mem, store, a, e);
-    drop_copy(answer, book);
-    Reply {
-        counters,
-        length: answers::handing_back(answer, text),
+impl Replay {
+    // A fresh board and no copies.
+    pub fn new() -> Self
+        ensures { Begins result }
+    {
+        let mut mem = [0u32; WORDS];
+        desk::fresh(&mut mem);
+        Replay {
+            mem,
+            copies: Copies::new(),
+            clock: 0,
+            mark: Unit(63),
+            given: 0,
+        }
     }
-}
 
-// A line not of the form.
-fn unclear(counters: Counters, text: &mut [u8; 64]) -> Reply
-    ensures { (m b s : List ℕ) → Replies (memory m b s counters) (memory m b s result.counters) malformed text.old text.new result.length }
-{
-    Reply {
-        counters,
-        length: answers::malformed(text),
+    // S: a request is taken in.
+    fn take_in(&mut self, block: &mut [u8], text: &mut [u8; 64]) -> usize
+        requires { length block.old ≤ 200 }
+        ensures { Replies self.old self.new (submit block.old) text.old text.new result }
+    {
+        let took = desk::take_in(&mut self.mem, block, self.given);
+        self.given = took.given;
+        keep(took.answer, &mut self.copies, block);
+        answers::taking_in(took.answer, text)
     }
-}
 
-// ---- one line
+    // H: the first finished request is handed back, with the program's own copy of its block, or no bytes where there is none.
+    fn hand_back(&mut self, text: &mut [u8; 64]) -> usize
+        ensures { Replies self.old self.new hand_back text.old text.new result }
+    {
+        let seen = desk::look(&self.mem);
+        let part = find(seen, &self.copies).unwrap_or(0..0);
+        let store = &mut self.copies.store;
+        let answer = desk::hand_back(&mut self.mem, &mut store[part]);
+        forget(answer, &mut self.copies);
+        answers::handing_back(answer, text)
+    }
 
-// A line without its line feed, answered at the start of `text`.
-pub fn answer_line(
-    line: &[u8],
-    mem: &mut [u32; WORDS],
-    book: &mut [u32; BOOK],
-    store: &mut [u8; STORE],
-    counters: Counters,
-    text: &mut [u8; 64],
-) -> Reply
-    ensures { Replies (memory mem.old book.old store.old counters) (memory mem.new book.new store.new result.counters) (parse line.now) text.old text.new result.length }
-{
-    let mut block = [0u8; 200];
-    let read = lines::parse_line(line, &mut block);
-    match read {
-        Line::Submit(n) => take_in(mem, book, store, counters, &mut block[..n], text),
-        Line::Send => send(mem, counters, text),
-        Line::Event(ticket, what, moved) => report(mem, counters, ticket, what, moved, text),
-        Line::Abort(ticket) => abort(mem, counters, ticket, text),
-        Line::Freeze(n) => freeze(mem, counters, n, text),
-        Line::Release(n) => release(mem, counters, n, text),
-        Line::Tick => tick(mem, counters, text),
-        Line::Reset => reset(mem, counters, text),
-        Line::HandBack => hand_back(mem, book, store, counters, text),
-        Line::Malformed => unclear(counters, text),
+    // A line without its line feed, answered at the start of `text`. How many bytes its answer has.
+    pub fn answer_line(&mut self, line: &[u8], text: &mut [u8; 64]) -> usize
+        ensures { Replies self.old self.new (parse line.now) text.old text.new result }
+    {
+        let mut block = [0u8; 200];
+        match lines::parse_line(line, &mut block) {
+            Line::Submit(n) => self.take_in(&mut block[..n], text),
+            Line::Send => {
+                let went = desk::send(&mut self.mem, self.clock, self.mark);
+                self.mark = went.mark;
+                answers::sending(went.answer, text)
+            }
+            Line::Event(ticket, what, moved) => {
+                answers::reporting(desk::report(&mut self.mem, ticket, what, moved), text)
+            }
+            Line::Abort(ticket) => answers::aborting(desk::abort(&mut self.mem, ticket), text),
+            Line::Freeze(n) => {
+                answers::freezing(desk::freeze(&mut self.mem, board::unit_numbered(n)), text)
+            }
+            Line::Release(n) => {
+                answers::releasing(desk::release(&mut self.mem, board::unit_numbered(n)), text)
+            }
+            Line::Tick => {
+                let clock = desk::tick(&mut self.mem, self.clock);
+                self.clock = clock;
+                answers::ticking(clock, text)
+            }
+            Line::Reset => {
+                desk::reset(&mut self.mem);
+                answers::resetting(text)
+            }
+            Line::HandBack => self.hand_back(text),
+            Line::Malformed => answers::malformed(text),
+        }
     }
 }

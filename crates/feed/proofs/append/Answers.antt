@@ -4,4 +4,4 @@ use Rattle.feed.proofs.Lining.{appended}
 use Rattle.feed.proofs.append.Goals as goal
 
 pub returns : goal.returns
-returns c = rw c.paste.ensures (appended _ _ _ _ _ _ _ _ refl c.requires c.answer_line-reply.ensures)
+returns c = rw c.copy.ensures (appended _ _ _ _ _ _ _ _ refl c.requires c.answer_line-n.ensures)

@@ -1,20 +1,17 @@
 -- `replay::run` meets its contract. After each turn the log has come one piece further. Assumes nothing.
 use native.Mathlib.Omega.{arith}
-use Rattle.replay.proofs.Onward.{begun, onward, still}
+use Rattle.std.proofs.lemmas.Result.{err_from_is_err_and}
+use Rattle.replay.proofs.Onward.{begun, onward}
 use Rattle.replay.proofs.run.Goals as goal
 
-pub loop-turns-init : goal.loop-turns-init
-loop-turns-init g c = (omega arith, begun _ c.args.buf.now c.fresh-counters.ensures)
+pub loop-init : goal.loop-init
+loop-init g c = record { over_bound = omega arith; progress = begun _ c.args.buf.now c.requires }
 
-pub returns-then-n-eq0 : goal.returns-then-n-eq0
-returns-then-n-eq0 g c = let o = c.loop-turns in still _ o.buf _ o.over o.invariant.1 c.read_behind-n.ensures.1
+pub returns-in_err-write_all : goal.returns-in_err-write_all
+returns-in_err-write_all g c = let o = c.loop in
+    let p = err_from_is_err_and c.from_residual.result c.from_residual.ensures.1 in
+    rw p.1 (c.feed-turn.result.over, onward _ _ o.buf _ _ _ o.over _ o.invariant.progress c.read_behind-n.ensures.1 c.feed-turn.ensures.feeds)
 
-pub returns-then-not-write_out : goal.returns-then-not-write_out
-returns-then-not-write_out g c = let o = c.loop-turns in onward _ _ o.buf _ _ _ o.over _ o.invariant.1 c.read_behind-n.ensures.1 c.feed-turn.ensures.feeds
-
-pub loop-turns-preserved : goal.loop-turns-preserved
-loop-turns-preserved g c = let o = c.loop-turns in
-    (c.feed-turn.ensures.over_bound.0, onward _ _ o.buf _ _ _ o.over _ o.invariant.1 c.read_behind-n.ensures.1 c.feed-turn.ensures.feeds)
-
-pub returns : goal.returns
-returns g c = c.loop-turns.invariant.1
+pub loop-preserved : goal.loop-preserved
+loop-preserved g c = let o = c.loop in
+    record { over_bound = c.feed-turn.ensures.over_bound.0; progress = onward _ _ o.buf _ _ _ o.over _ o.invariant.progress c.read_behind-n.ensures.1 c.feed-turn.ensures.feeds }

@@ -1,7 +1,7 @@
--- `replay_log::take_in` meets its contract. Assumes nothing.
+-- `Replay::take_in` meets its contract. Assumes nothing.
 use Rattle.replay_log.proofs.Blocks.{took}
-use Rattle.replay_log.proofs.take_in.Goals as goal
+use Rattle.replay_log.proofs.Replay.take_in.Goals as goal
 
 pub returns : goal.returns
-returns c = rw (c.keep.ensures.0, c.keep.ensures.1)
+returns c = rw (← c.self.view_is, c.keep.ensures.0, c.keep.ensures.1)
     (took _ _ _ _ _ _ _ _ _ _ c.take_in-took.result.answer _ _ _ c.take_in-took.ensures c.requires c.taking_in.ensures)
