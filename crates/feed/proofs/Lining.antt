@@ -8,11 +8,10 @@ use lib.ListN.{length, get_or, take, drop, take-append-drop, length-drop}
 use Rattle.std.specs.List.{between, copy_within}
 use Rattle.std.proofs.lemmas.Slice.{between_is}
 use Rattle.std.proofs.lemmas.List.Edits.{length-between, get_or-between}
-use lib.Seq.{paste, take-paste, take-take, take_all, drop-cons, drop-drop, get_or-drop, length-take-le, take-append-add, take-append-le, sets-eq, length-sets}
+use lib.Seq.{paste, take-paste, take-take, take_all, drop-cons, drop-drop, get_or-drop, length-take-le, take-append-add, take-append-le, sets-eq}
 use Rattle.board.specs.Plain.{◌=?◌, ◌≤?◌}
 use Rattle.board.proofs.Choose.{if_ind, by_cases, same, at_most, not_at_most}
 use Rattle.lines.specs.Record.{parse}
-use Rattle.answers.proofs.Written.{written}
 use Rattle.copies.specs.Slots.{pasted}
 use Rattle.copies.proofs.Slotted.{pasted_fits, pasted_size}
 use Rattle.replay_log.specs.Replay.{State, answer}
@@ -91,28 +90,28 @@ one_more m₀ m m' s out out' a e filled n l g c z so_far appends = record {
 
 -- ---- one answer behind the others
 
-pub appended : (m m' : Memory) (line zeros text out : List ℕ) (filled n : ℕ) → length zeros ≡ 64 → filled + 64 ≤ length out
-    → Replies m m' (parse line) zeros text n
-    → Appends m m' line out (pasted out filled text) filled n
-appended m m' line zeros text out filled n size room replies = record {
+-- of all 64 bytes that are pasted behind the first `filled`, those of the text count
+behind : (out all text : List ℕ) (filled : ℕ) → length all ≡ 64 → filled + 64 ≤ length out → take (length text) all ≡ text → length text ≤ 64
+    → take (filled + length text) (pasted out filled all) ≡ take filled out ++ text
+behind out all text filled size room front short =
+    let more = drop (filled + length all) out in
+    let lf = length-take-le filled out (omega arith) in
+    let e : filled + length text ≡ length (take filled out) + length text = omega arith in
+    ap (take (filled + length text)) (pasted_fits out all filled (omega arith) ∙ (sets-eq all out filled (omega arith) ∙ append_assoc (take filled out) all more))
+    ∙ (ap (λ (k : ℕ). take k (take filled out ++ (all ++ more))) e
+    ∙ (take-append-add (take filled out) (all ++ more) (length text)
+    ∙ ap (λ (x : List ℕ). take filled out ++ x) (take-append-le (length text) all more (omega arith) ∙ front)))
+
+pub appended : (m m' : Memory) (line all text out : List ℕ) (filled : ℕ) → length all ≡ 64 → filled + 64 ≤ length out → take (length text) all ≡ text → length text ≤ 64
+    → Replies m m' (parse line) text
+    → Appends m m' line out (pasted out filled all) filled (length text)
+appended m m' line all text out filled size room front short replies = record {
   holds = replies.holds;
   state = replies.state;
-  says = λ h.
-      let w = written (replies.says h) size in
-      let lt : length text ≡ 64 = long h in
-      let more = drop (filled + length text) out in
-      let lf = length-take-le filled out (omega arith) in
-      let e : filled + n ≡ length (take filled out) + n = omega arith in
-      ap (take (filled + n)) (pasted_fits out text filled (omega arith) ∙ (sets-eq text out filled (omega arith) ∙ append_assoc (take filled out) text more))
-      ∙ (ap (λ (k : ℕ). take k (take filled out ++ (text ++ more))) e
-      ∙ (take-append-add (take filled out) (text ++ more) n
-      ∙ ap (λ (x : List ℕ). take filled out ++ x) (take-append-le n text more (let q = replies.within in omega arith) ∙ w.0)));
-  within = replies.within;
-  size = pasted_size out text filled;
+  says = λ h. behind out all text filled size room front short ∙ ap (λ (x : List ℕ). take filled out ++ x) (replies.says h);
+  within = short;
+  size = pasted_size out all filled;
 }
-  where
-    long : Holds m → length text ≡ 64
-    long h = ap (λ (l : List ℕ). length l) (replies.says h).stored ∙ (length-sets zeros 0 (answer (shown m) line).text ∙ size)
 
 -- ---- a piece, and the end
 

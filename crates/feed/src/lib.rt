@@ -5,6 +5,7 @@ ghost use Rattle.std.specs.Prelude.{◌≡◌, ◌+◌, ◌-◌, ◌*◌, ◌≤
 ghost use Rattle.feed.specs.Feeding.{Feeds, Ends};
 ghost use Rattle.feed.specs.LineEnds.{Clear, Appends, SoFar};
 
+use answers::Text;
 use memchr::memchr;
 use replay_log::Replay;
 
@@ -21,10 +22,10 @@ fn append(line: &[u8], replay: &mut Replay, out: &mut [u8], filled: usize) -> us
     requires { filled + 64 ≤ length out.old }
     ensures { Appends replay.old replay.new line.now out.old out.new filled result }
 {
-    let mut text = [0u8; 64];
-    let n = replay.answer_line(line, &mut text);
-    copies::copy(out, filled, &text);
-    n
+    let mut text = Text::new();
+    replay.answer_line(line, &mut text);
+    copies::copy(out, filled, text.all());
+    text.as_slice().len()
 }
 
 // How far whole lines came: where the first line that has not ended begins, and how many bytes were written.

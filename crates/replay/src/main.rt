@@ -8,6 +8,7 @@ ghost use Rattle.std.specs.Prelude.{◌≡◌, ℕ, ◌+◌, ◌≤◌, length, 
 ghost use Rattle.replay_log.specs.Promise.{Begins};
 ghost use Rattle.replay.specs.Progress.{Progress};
 
+use answers::Text;
 use feed::{INPUT, OUTPUT};
 use replay_log::Replay;
 use std::io::{self, Read, Write};
@@ -48,9 +49,9 @@ fn run(
 
 // The head line.
 fn write_head(output: &mut impl Write) -> io::Result<()> {
-    let mut text = [0u8; 64];
-    let n = answers::head_line(&mut text);
-    output.write_all(&text[..n])
+    let mut text = Text::new();
+    answers::head_line(&mut text);
+    output.write_all(text.as_slice())
 }
 
 // The head line, the answers to the log, and at its end a last line that has no line feed.

@@ -1,5 +1,5 @@
 -- A block taken in, and one handed back: the definition's answers. Assumes nothing.
-use Rattle.std.specs.Prelude.{if◌then◌else◌}
+use Rattle.std.specs.Prelude.{Option, Some, None, Result, Ok, Err, if◌then◌else◌}
 use Rattle.std.specs.Option.{unwrap_or}
 use Rattle.std.specs.List.{between}
 use Prim.Native.Nat.{ℕ, ◌+◌, ◌<◌, ◌≤◌}
@@ -13,12 +13,10 @@ use Rattle.board.specs.declared.Ticket.{Ticket}
 use Rattle.board.specs.declared.Unit.{Unit}
 use Rattle.board.specs.declared.Told.{Told}
 use Rattle.board.specs.declared.Finished.{Finished}
-use Rattle.board.specs.declared.TakingIn.{TakingIn}
-use Rattle.board.specs.declared.TakingIn.TheVariants.{Taken, Refused}
-use Rattle.board.specs.declared.Looking.{Looking}
-use Rattle.board.specs.declared.Looking.TheVariants as looking
-use Rattle.board.specs.declared.HandingBack.{HandingBack}
-use Rattle.board.specs.declared.HandingBack.TheVariants as handing_back
+use Rattle.board.specs.declared.Refusal.{Refusal}
+use Rattle.board.specs.declared.First.{First}
+use Rattle.board.specs.declared.Handed.{Handed}
+use Rattle.board.specs.declared.NotHanded.{NotHanded}
 use Rattle.board.specs.Plain.{◌=?◌, count}
 use Rattle.board.specs.Board.{Board, with_finished}
 use Rattle.board.specs.Block.{with_told}
@@ -29,7 +27,6 @@ use Rattle.board.proofs.Choose.{itself}
 use Rattle.lines.specs.Record as record_of
 use Rattle.answers.specs.Letters.{S, H}
 use Rattle.answers.specs.Answer.{print}
-use Rattle.answers.specs.Put.{Put}
 use Rattle.copies.specs.Slots.{slots_passing, lies, bytes_in, copy_of}
 use Rattle.copies.proofs.Copied.{unless_same, nowhere, bytes_there, outside_copy}
 use Rattle.copies.proofs.Counted.{used, has}
@@ -81,35 +78,35 @@ module _ {w w' b s lent lent' : List ℕ} {r r' : Rest} {t : Ticket} (h : Holds 
       let z = h.slots used refl in
       omega arith
 
-pub took : (w w' b s lent lent' : List ℕ) (clock : ℕ) (mark : Unit) (given given' : ℕ) (a : TakingIn) (text text' : List ℕ) (n : ℕ)
+pub took : (w w' b s lent lent' : List ℕ) (clock : ℕ) (mark : Unit) (given given' : ℕ) (a : Result Ticket Refusal) (text : List ℕ)
     → TakesIn w w' lent lent' given given' (taking_in_says a)
     → length lent ≤ 200
-    → Put 64 text text' 0 n (print S (taking_in_says a))
-    → Replies (at_rest w b s (the_rest clock mark given)) (at_rest w' (book_after a b (length lent')) (store_after a b s lent') (the_rest clock mark given')) (record_of.submit lent) text text' n
+    → text ≡ print S (taking_in_says a)
+    → Replies (at_rest w b s (the_rest clock mark given)) (at_rest w' (book_after a b (length lent')) (store_after a b s lent') (the_rest clock mark given')) (record_of.submit lent) text
 unfolding respond
-took w w' b s lent lent' clock mark given given' (Taken t) text text' n k short put =
+took w w' b s lent lent' clock mark given given' (Ok t) text k short put =
     let d = k.does clock mark in
-    replies _ _ (record_of.submit lent) S (take_in lent) (taken t) lent' text text' n d (λ h. refl)
+    replies _ _ (record_of.submit lent) S (take_in lent) (taken t) lent' text d (λ h. refl)
     (λ h. kept_copy b s lent' t h.book_size h.store_size (let z = k.size in omega arith) (new_ticket h d) (room h d) (not_yet h d)) put
-took w w' b s lent lent' clock mark given given' (Refused why) text text' n k short put =
-    replies _ _ (record_of.submit lent) S (take_in lent) (refused (number why)) lent' text text' n (k.does clock mark) (λ h. refl)
+took w w' b s lent lent' clock mark given given' (Err why) text k short put =
+    replies _ _ (record_of.submit lent) S (take_in lent) (refused (number why)) lent' text (k.does clock mark) (λ h. refl)
     (λ h. unchanged b s (refused (number why)) lent' h.book_size h.store_size (neither_refused _).gives (neither_refused _).hands) put
 
 -- ---- handing back
 
 -- the copy lent is that of the first finished request's block: the one that the look saw
-first_seen : (l : Looking) (b : Board) (book store : List ℕ) → looking_says l ≡ (step b look).answer → copy_of_first (copy_of book store) b.finished ≡ bytes_in store (lies_for l book)
+first_seen : (l : Option First) (b : Board) (book store : List ℕ) → looking_says l ≡ (step b look).answer → copy_of_first (copy_of book store) b.finished ≡ bytes_in store (lies_for l book)
 unfolding step looking first_of copy_of
 first_seen l b book store e = go l b.finished e
   where
-    go : (l : Looking) (line : List Finished) → looking_says l ≡ (first_of b line).answer → copy_of_first (copy_of book store) line ≡ bytes_in store (lies_for l book)
-    go (looking.First t address callback wanted) [] e = let n : ◌≡◌ {A = ℕ} 0 1 = cc in absurd (omega arith)
-    go looking.Empty [] e = refl
-    go (looking.First t address callback wanted) (x ∷ more) e = ap (copy_of book store) (let n : x.request.ticket ≡ t = cc in n)
-    go looking.Empty (x ∷ more) e = let n : ◌≡◌ {A = ℕ} 0 1 = cc in absurd (omega arith)
+    go : (l : Option First) (line : List Finished) → looking_says l ≡ (first_of b line).answer → copy_of_first (copy_of book store) line ≡ bytes_in store (lies_for l book)
+    go (Some y) [] e = let n : ◌≡◌ {A = ℕ} 0 1 = cc in absurd (omega arith)
+    go None [] e = refl
+    go (Some y) (x ∷ more) e = ap (copy_of book store) (let n : x.request.ticket ≡ y.ticket = cc in n)
+    go None (x ∷ more) e = let n : ◌≡◌ {A = ℕ} 0 1 = cc in absurd (omega arith)
 
 -- and it is the one handed back
-first_handed : (l : Looking) (b : Board) (s book : List ℕ) (t : Ticket) (x : Told) → looking_says l ≡ (step b look).answer → handed t x ≡ (step b (hand_back s)).answer → lies_for l book ≡ lies book t.0
+first_handed : (l : Option First) (b : Board) (s book : List ℕ) (t : Ticket) (x : Told) → looking_says l ≡ (step b look).answer → handed t x ≡ (step b (hand_back s)).answer → lies_for l book ≡ lies book t.0
 unfolding step looking first_of handing_back first_to
 first_handed l b s book t x e f = go l b.finished e f
   where
@@ -119,11 +116,11 @@ first_handed l b s book t x e f = go l b.finished e f
     chosen y more true f = let n : ◌≡◌ {A = ℕ} 0 1 = cc in absurd (omega arith)
     chosen y more false f = cc
 
-    go : (l : Looking) (line : List Finished) → looking_says l ≡ (first_of b line).answer → handed t x ≡ (first_to b s line).answer → lies_for l book ≡ lies book t.0
-    go (looking.First u address callback wanted) [] e f = let n : ◌≡◌ {A = ℕ} 0 1 = cc in absurd (omega arith)
-    go looking.Empty [] e f = let n : ◌≡◌ {A = ℕ} 0 1 = cc in absurd (omega arith)
-    go (looking.First u address callback wanted) (y ∷ more) e f = let n : u ≡ y.request.ticket = cc in ap (λ (v : Ticket). lies book v.0) (n ∙ chosen y more (not_its_block s y) f)
-    go looking.Empty (y ∷ more) e f = let n : ◌≡◌ {A = ℕ} 0 1 = cc in absurd (omega arith)
+    go : (l : Option First) (line : List Finished) → looking_says l ≡ (first_of b line).answer → handed t x ≡ (first_to b s line).answer → lies_for l book ≡ lies book t.0
+    go (Some z) [] e f = let n : ◌≡◌ {A = ℕ} 0 1 = cc in absurd (omega arith)
+    go None [] e f = let n : ◌≡◌ {A = ℕ} 0 1 = cc in absurd (omega arith)
+    go (Some z) (y ∷ more) e f = let n : z.ticket ≡ y.request.ticket = cc in ap (λ (v : Ticket). lies book v.0) (n ∙ chosen y more (not_its_block s y) f)
+    go None (y ∷ more) e f = let n : ◌≡◌ {A = ℕ} 0 1 = cc in absurd (omega arith)
 
 -- what is known when a block was handed back
 module _ {w w' b s lent lent' : List ℕ} {r : Rest} {t : Ticket} {x : Told} (h : Holds (at_rest w b s r)) (d : Does w w' r r (hand_back lent) (handed t x) lent') where
@@ -147,15 +144,15 @@ module _ {w w' b s lent lent' : List ℕ} {r : Rest} {t : Ticket} {x : Told} (h 
       omega arith
 
 -- H, with what the look saw: the copy lies from a to e
-pub gave : (w w' b s s' : List ℕ) (r : Rest) (l : Looking) (a e : ℕ) (given : HandingBack) (text text' : List ℕ) (n : ℕ)
+pub gave : (w w' b s s' : List ℕ) (r : Rest) (l : Option First) (a e : ℕ) (given : Result Handed NotHanded) (text : List ℕ)
     → Does w w r r look (looking_says l) []
     → a ≡ (unwrap_or (lies_for l b) nowhere).start
     → e ≡ (unwrap_or (lies_for l b) nowhere).end
     → Lends w w' s s' a e given
-    → Put 64 text text' 0 n (print H (handing_back_says given))
-    → Replies (at_rest w b s r) (at_rest w' (book_without given b) s' r) record_of.hand_back text text' n
+    → text ≡ print H (handing_back_says given)
+    → Replies (at_rest w b s r) (at_rest w' (book_without given b) s' r) record_of.hand_back text
 unfolding respond shown copy_of
-gave w w' b s s' r l a e given text text' n looks ea ee lent put = go given lent put
+gave w w' b s s' r l a e given text looks ea ee lent put = go given lent put
   where
     its_copy : Holds (at_rest w b s r) → copy_of_first (copy_of b s) (view w r).finished ≡ between a e s
     its_copy h =
@@ -166,17 +163,19 @@ gave w w' b s s' r l a e given text text' n looks ea ee lent put = go given lent
     calls : (h : Holds (at_rest w b s r)) → respond (shown (at_rest w b s r)) record_of.hand_back ≡ answered (shown (at_rest w b s r)) H (hand_back (between a e s))
     calls h = ap (λ (y : List ℕ). answered (shown (at_rest w b s r)) H (hand_back y)) (its_copy h)
 
-    refuses : (k : ℕ) (given : HandingBack) → handing_back_says given ≡ refused k → book_without given b ≡ b → Lends w w' s s' a e given → Put 64 text text' 0 n (print H (handing_back_says given))
-        → Replies (at_rest w b s r) (at_rest w' (book_without given b) s' r) record_of.hand_back text text' n
+    refuses : (k : ℕ) (given : Result Handed NotHanded) → handing_back_says given ≡ refused k → book_without given b ≡ b → Lends w w' s s' a e given → text ≡ print H (handing_back_says given)
+        → Replies (at_rest w b s r) (at_rest w' (book_without given b) s' r) record_of.hand_back text
     refuses k given q z lent put =
         let same_store : s' ≡ s = as_it_was s s' a e lent.size lent.outside (lent.hands_back.unwritten k q) in
-        rw z (replies (at_rest w b s r) (at_rest w' b s' r) record_of.hand_back H (hand_back (between a e s)) (handing_back_says given) (between a e s') text text' n (lent.hands_back.does r) calls
+        rw z (replies (at_rest w b s r) (at_rest w' b s' r) record_of.hand_back H (hand_back (between a e s)) (handing_back_says given) (between a e s') text (lent.hands_back.does r) calls
         (λ h. subst (λ (y : List ℕ). Copied b s b y (handing_back_says given) (between a e s')) (sym same_store) (unchanged b s (handing_back_says given) (between a e s') h.book_size h.store_size (ap given_by q ∙ (neither_refused k).gives) (ap handed_by q ∙ (neither_refused k).hands))) put)
 
-    go : (given : HandingBack) → Lends w w' s s' a e given → Put 64 text text' 0 n (print H (handing_back_says given))
-        → Replies (at_rest w b s r) (at_rest w' (book_without given b) s' r) record_of.hand_back text text' n
-    go (handing_back.Handed t x) lent put =
-        replies _ _ record_of.hand_back H (hand_back (between a e s)) (handed t x) (between a e s') text text' n (lent.hands_back.does r) calls
+    go : (given : Result Handed NotHanded) → Lends w w' s s' a e given → text ≡ print H (handing_back_says given)
+        → Replies (at_rest w b s r) (at_rest w' (book_without given b) s' r) record_of.hand_back text
+    go (Ok y) lent put =
+        let t = y.ticket in
+        let x = y.told in
+        replies _ _ record_of.hand_back H (hand_back (between a e s)) (handed t x) (between a e s') text (lent.hands_back.does r) calls
         (λ h. let d = lent.hands_back.does r in
         let its = first_handed l (view w r) (between a e s) b t x (looks.says h.desk) (d.says h.desk) in
         dropped_copy b s s' (between a e s') t x h.book_size h.store_size (old_ticket h d) (just_one h d) lent.size
@@ -184,5 +183,4 @@ gave w w' b s s' r l a e given text text' n looks ea ee lent put = go given lent
           size = lent.size;
           same_bytes = λ k f. lent.outside k (λ o q. outside_copy b t.0 i k there f (subst (λ (y : ℕ). y ≤ k) (ea ∙ ap (λ y. (unwrap_or y nowhere).start) its) o) (subst (λ (y : ℕ). k < y) (ee ∙ ap (λ y. (unwrap_or y nowhere).end) its) q));
         })) put
-    go handing_back.Empty lent put = refuses 104 handing_back.Empty refl refl lent put
-    go handing_back.NotItsBlock lent put = refuses 105 handing_back.NotItsBlock refl refl lent put
+    go (Err why) lent put = refuses _ (Err why) refl refl lent put

@@ -1,5 +1,5 @@
 -- A part of the store that is lent comes back in its place. Assumes nothing.
-use Rattle.std.specs.Prelude.{Option, Some, None, IfSome}
+use Rattle.std.specs.Prelude.{Option, Some, None, IfSome, Result}
 use Rattle.std.specs.declared.ops.Range.{Range}
 use Rattle.std.specs.Option.{unwrap_or}
 use Rattle.std.specs.List.{between}
@@ -10,7 +10,8 @@ use mathlib.Core.Path.{◌≡◌, sym, ap, ◌∙◌, subst}
 use mathlib.Core.List.{List, ◌++◌}
 use lib.ListN.{length, get_or, take, drop}
 use lib.Seq.{sets, length-sets, ext_get_or}
-use Rattle.board.specs.declared.HandingBack.{HandingBack}
+use Rattle.board.specs.declared.Handed.{Handed}
+use Rattle.board.specs.declared.NotHanded.{NotHanded}
 use Rattle.board.specs.Answers.{handing_back_says}
 use Rattle.board.specs.Plain.{◌≤?◌, ◌<?◌}
 use Rattle.board.proofs.Choose.{by_cases, at_most, not_at_most, below, not_below}
@@ -19,12 +20,12 @@ use Rattle.copies.proofs.Copied.{sets_off, paste_reads, nowhere}
 use Rattle.desk.specs.Promise.{HandsBack}
 
 -- hand back with a part of the store; the rest of the store stays as it was
-pub record Lends (m m' store store' : List ℕ) (a e : ℕ) (r : HandingBack) : Type 0 where
+pub record Lends (m m' store store' : List ℕ) (a e : ℕ) (r : Result Handed NotHanded) : Type 0 where
   pub hands_back : HandsBack m m' (between a e store) (between a e store') (handing_back_says r)
   pub size : length store' ≡ length store
   pub outside : (k : ℕ) → (a ≤ k → k < e → ⊥) → get_or store' k 0 ≡ get_or store k 0
 
-pub lends : (m m' l x : List ℕ) (a e : ℕ) (r : HandingBack) → a ≤ e → e ≤ length l → length x ≡ length (between a e l) → HandsBack m m' (between a e l) x (handing_back_says r)
+pub lends : (m m' l x : List ℕ) (a e : ℕ) (r : Result Handed NotHanded) → a ≤ e → e ≤ length l → length x ≡ length (between a e l) → HandsBack m m' (between a e l) x (handing_back_says r)
     → Lends m m' l (take a l ++ (x ++ drop (e - a) (drop a l))) a e r
 lends m m' l x a e r h g k hands = rw (put_back a e l x h g n) record {
   hands_back = subst (λ (y : List ℕ). HandsBack m m' (between a e l) y (handing_back_says r)) (sym back) hands;

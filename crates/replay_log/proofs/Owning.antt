@@ -13,11 +13,10 @@ use Rattle.board.specs.declared.Finished.{Finished}
 use Rattle.board.specs.declared.Unit.{Unit}
 use Rattle.board.specs.declared.Active.{Active}
 use Rattle.board.specs.declared.Event.{Event}
-use Rattle.board.specs.declared.Ending.{Ending}
-use Rattle.board.specs.declared.Ending.TheVariants.{Ended, Refused}
-use Rattle.board.specs.declared.Rotation.{Rotation}
-use Rattle.board.specs.declared.Rotation.TheVariants.{Found, Nobody}
-use mathlib.Core.Option.{Option, none, some}
+use Rattle.board.specs.declared.End.{End}
+use Rattle.board.specs.declared.Implausible.{Implausible}
+use Rattle.board.specs.declared.Found.{Found}
+use Rattle.std.specs.Prelude.{Option, Some, None, Result, Ok, Err}
 use Rattle.board.specs.Plain.{◌=?◌, ◌<?◌, ◌≤?◌, any}
 use Rattle.board.specs.Board.{the_unit, same_ticket, units, find, ticket_of_active, most_active, Freeze, one_freeze, one_release, Board, all_waiting, live, next_ticket, with_finished}
 use Rattle.board.specs.Sending.{sent_first, sent_by, sending}
@@ -125,34 +124,34 @@ unfolding sent_first given_by
 old_sent_first b u n [] = refl
 old_sent_first b u n (q ∷ more) = refl
 
-old_sent_by : (b : Board) (r : Rotation) → Old (sent_by b r)
+old_sent_by : (b : Board) (r : Option Found) → Old (sent_by b r)
 unfolding sent_by given_by
-old_sent_by b Nobody = refl
-old_sent_by b (Found u n) = old_sent_first b u n (b.waiting u)
+old_sent_by b None = refl
+old_sent_by b (Some x) = old_sent_first b x.unit x.looked (b.waiting x.unit)
 
 old_sending : (b : Board) → Old (sending b)
 unfolding sending given_by
 old_sending b = if_ind Old (most_active ≤? length b.active) _ _ (λ e. refl) (λ e. old_sent_by b _)
 
-old_reported_by : (b : Board) (q : Request) (e : Ending) → Old (reported_by b q e)
+old_reported_by : (b : Board) (q : Request) (e : Result End Implausible) → Old (reported_by b q e)
 unfolding reported_by given_by
-old_reported_by b q Refused = refl
-old_reported_by b q (Ended x) = refl
+old_reported_by b q (Err why) = refl
+old_reported_by b q (Ok x) = refl
 
 old_reported : (b : Board) (e : Event) (moved : ℕ) (a : Option Active) → Old (reported b e moved a)
 unfolding reported given_by
-old_reported b e moved none = refl
-old_reported b e moved (some a) = old_reported_by b a.request (ending a e moved)
+old_reported b e moved None = refl
+old_reported b e moved (Some a) = old_reported_by b a.request (ending a e moved)
 
 old_asked : (b : Board) (t : Ticket) (a : Option Active) → Old (asked b t a)
 unfolding asked given_by
-old_asked b t none = refl
-old_asked b t (some a) = refl
+old_asked b t None = refl
+old_asked b t (Some a) = refl
 
 old_aborted : (b : Board) (t : Ticket) (q : Option Request) → Old (aborted b t q)
 unfolding aborted given_by
-old_aborted b t (some q) = refl
-old_aborted b t none = old_asked b t (find ticket_of_active t b.active)
+old_aborted b t (Some q) = refl
+old_aborted b t None = old_asked b t (find ticket_of_active t b.active)
 
 old_freezing : (change : Freeze → Freeze) (b : Board) (u : Unit) → Old (freezing change b u)
 unfolding freezing given_by

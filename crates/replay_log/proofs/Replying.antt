@@ -1,4 +1,5 @@
 -- A call on a memory that holds a state, and what the copies do then, is the definition's answer to a record. Assumes nothing.
+use Rattle.std.specs.Prelude.{Option, Some, None, Result, Ok, Err}
 use Prim.Native.Nat.{ℕ, ◌≤◌}
 use native.Mathlib.Omega.{arith}
 use mathlib.Core.Path.{◌≡◌, refl, sym, ap, ◌∙◌, subst, fun_ext}
@@ -8,13 +9,10 @@ use lib.Seq.{length-take-le}
 use lib.ListN.{length, take, length-replicate, get_or-replicate, replicate}
 use Rattle.board.specs.declared.Ticket.{Ticket}
 use Rattle.board.specs.declared.Sending.{Sending}
-use Rattle.board.specs.declared.Sending.TheVariants as sending
-use Rattle.board.specs.declared.Reporting.{Reporting}
-use Rattle.board.specs.declared.Reporting.TheVariants as reporting
-use Rattle.board.specs.declared.Aborting.{Aborting}
-use Rattle.board.specs.declared.Aborting.TheVariants as aborting
-use Rattle.board.specs.declared.Freezing.{Freezing}
-use Rattle.board.specs.declared.Freezing.TheVariants as freezing
+use Rattle.board.specs.declared.Sent.{Sent}
+use Rattle.board.specs.declared.Unreported.{Unreported}
+use Rattle.board.specs.declared.UnableToAbort.{UnableToAbort}
+use Rattle.board.specs.declared.NoSuchUnit.{NoSuchUnit}
 use Rattle.board.specs.Board.{the_unit, Board, fresh, live}
 use Rattle.board.proofs.Weigh.{one, weigh_count}
 use Rattle.board.proofs.Kept.{live_mass}
@@ -27,7 +25,6 @@ use Rattle.lines.specs.declared.Line.TheVariants as line
 use Rattle.lines.specs.declared.Line.{Line}
 use Rattle.lines.proofs.HandedOver.{record_in, record_handed, same_size}
 use Rattle.answers.specs.Answer.{print, unclear}
-use Rattle.answers.specs.Put.{Put}
 use Rattle.copies.specs.Slots.{slots_passing, copy_of}
 use Rattle.copies.proofs.Copied.{no_copy}
 use Rattle.copies.proofs.Counted.{passing_nobody}
@@ -43,14 +40,14 @@ use Rattle.replay_log.proofs.Keeping.{Copied, unchanged}
 
 -- The record makes this call in the state shown, the call keeps the desk's promise, the copies change as its answer says, and the
 -- answer is printed.
-pub replies : (m m' : Memory) (r : Record) (letter : ℕ) (c : Call) (a : Answer) (lent text text' : List ℕ) (n : ℕ)
+pub replies : (m m' : Memory) (r : Record) (letter : ℕ) (c : Call) (a : Answer) (lent text : List ℕ)
     → Does m.words m'.words m.rest m'.rest c a lent
     → (Holds m → respond (shown m) r ≡ answered (shown m) letter c)
     → (Holds m → Copied m.book m.store m'.book m'.store a lent)
-    → Put 64 text text' 0 n (print letter a)
-    → Replies m m' r text text' n
+    → text ≡ print letter a
+    → Replies m m' r text
 unfolding shown answered
-replies m m' r letter c a lent text text' n d calls copied put = record {
+replies m m' r letter c a lent text d calls copied put = record {
   holds = λ h. record {
     desk = d.valid h.desk;
     book_size = (copied h).book_size;
@@ -61,8 +58,7 @@ replies m m' r letter c a lent text text' n d calls copied put = record {
       let kept : (t : Ticket) → copy_of m'.book m'.store t ≡ copies_after (step (b h) c).answer (step (b h) c).lent (copy_of m.book m.store) t =
       λ t. (copied h).copies t ∙ (λ i. copies_after (d.says h.desk i) (d.lent h.desk i) (copy_of m.book m.store) t) in
       (λ i. record { board = d.board h.desk i; copies = fun_ext kept i }) ∙ sym (ap (λ x. x.state) (calls h));
-  says = λ h. subst (λ x. Put 64 text text' 0 n x) (sym (ap (λ x. x.text) (calls h) ∙ ap (print letter) (sym (d.says h.desk)))) put;
-  within = put.within;
+  says = λ h. put ∙ sym (ap (λ x. x.text) (calls h) ∙ ap (print letter) (sym (d.says h.desk)));
 }
   where
     b : Holds m → Board
@@ -81,14 +77,14 @@ pub record Neither (a : Answer) : Type 0 where
   pub gives : given_by a ≡ []
   pub hands : handed_by a ≡ []
 
-pub plainly : (w w' b s : List ℕ) (p p' : Rest) (r : Record) (letter : ℕ) (c : Call) (a : Answer) (text text' : List ℕ) (n : ℕ)
+pub plainly : (w w' b s : List ℕ) (p p' : Rest) (r : Record) (letter : ℕ) (c : Call) (a : Answer) (text : List ℕ)
     → Does w w' p p' c a []
     → ((st : State) → respond st r ≡ answered st letter c)
     → Neither a
-    → Put 64 text text' 0 n (print letter a)
-    → Replies record { words = w; book = b; store = s; rest = p } record { words = w'; book = b; store = s; rest = p' } r text text' n
-plainly w w' b s p p' r letter c a text text' n d calls k put =
-    replies record { words = w; book = b; store = s; rest = p } record { words = w'; book = b; store = s; rest = p' } r letter c a [] text text' n d (λ h. calls _)
+    → text ≡ print letter a
+    → Replies record { words = w; book = b; store = s; rest = p } record { words = w'; book = b; store = s; rest = p' } r text
+plainly w w' b s p p' r letter c a text d calls k put =
+    replies record { words = w; book = b; store = s; rest = p } record { words = w'; book = b; store = s; rest = p' } r letter c a [] text d (λ h. calls _)
     (λ h. unchanged b s a [] h.book_size h.store_size k.gives k.hands) put
 
 -- the answers that give nothing and hand nothing back
@@ -104,31 +100,33 @@ pub neither_time : (n : ℕ) → Neither (time n)
 unfolding given_by handed_by
 neither_time n = record { gives = refl; hands = refl }
 
+neither_sent : (x : Option Sent) (looked : ℕ) → Neither (sending_says (record { sent = x; looked = looked }))
+unfolding given_by handed_by
+neither_sent (Some x) looked = record { gives = refl; hands = refl }
+neither_sent None looked = record { gives = refl; hands = refl }
+
 pub neither_sending : (a : Sending) → Neither (sending_says a)
+neither_sending a = neither_sent a.sent a.looked
+
+pub neither_reporting : (a : Result Unit Unreported) → Neither (reporting_says a)
+neither_reporting (Ok ended) = neither_done
+neither_reporting (Err why) = neither_refused _
+
+pub neither_aborting : (a : Result Unit UnableToAbort) → Neither (aborting_says a)
+neither_aborting (Ok aborted) = neither_done
+neither_aborting (Err why) = neither_refused _
+
+pub neither_freezing : (a : Result Bool NoSuchUnit) → Neither (freezing_says a)
 unfolding given_by handed_by
-neither_sending (sending.Sent t u cdb looked) = record { gives = refl; hands = refl }
-neither_sending (sending.Nothing looked) = record { gives = refl; hands = refl }
-
-pub neither_reporting : (a : Reporting) → Neither (reporting_says a)
-neither_reporting reporting.Ended = neither_done
-neither_reporting reporting.NotActive = neither_refused 101
-neither_reporting reporting.Implausible = neither_refused 102
-
-pub neither_aborting : (a : Aborting) → Neither (aborting_says a)
-neither_aborting aborting.Done = neither_done
-neither_aborting aborting.UnableToAbort = neither_refused 0x03
-
-pub neither_freezing : (a : Freezing) → Neither (freezing_says a)
-unfolding given_by handed_by
-neither_freezing (freezing.Before n) = record { gives = refl; hands = refl }
-neither_freezing freezing.NoSuchUnit = neither_refused 103
+neither_freezing (Ok was_frozen) = record { gives = refl; hands = refl }
+neither_freezing (Err why) = neither_refused _
 
 -- ---- a line not of the form
 
-pub stays : (w b s : List ℕ) (p : Rest) (text text' : List ℕ) (n : ℕ) → Put 64 text text' 0 n unclear
-    → Replies record { words = w; book = b; store = s; rest = p } record { words = w; book = b; store = s; rest = p } malformed text text' n
+pub stays : (w b s : List ℕ) (p : Rest) (text : List ℕ) → text ≡ unclear
+    → Replies record { words = w; book = b; store = s; rest = p } record { words = w; book = b; store = s; rest = p } malformed text
 unfolding respond
-stays w b s p text text' n put = record { holds = λ h. h; state = λ h. refl; says = λ h. put; within = put.within }
+stays w b s p text put = record { holds = λ h. h; state = λ h. refl; says = λ h. put }
 
 -- ---- a fresh state
 
@@ -156,14 +154,14 @@ begins_at m f b s r = subst Begins (λ i. record { words = m.words; book = sym b
 -- ---- what was read
 
 -- a reply to what the parser handed over is one to the record that was read
-pub as_read : {m m' : Memory} {text text' : List ℕ} {n : ℕ} {r : Record} {lent lent' : List ℕ} {a a' : Line} → Parsed r lent lent' a → length lent ≡ 200 → a ≡ a'
-    → Replies m m' (record_in a' lent') text text' n → Replies m m' r text text' n
-as_read {m} {m'} {text} {text'} {n} {r} {lent} {lent'} {a} {a'} p size e d =
-    subst (λ q. Replies m m' q text text' n) (sym (record_handed p size ∙ ap (λ (l : Line). record_in l lent') e)) d
+pub as_read : {m m' : Memory} {text : List ℕ} {r : Record} {lent lent' : List ℕ} {a a' : Option Line} → Parsed r lent lent' a → length lent ≡ 200 → a ≡ a'
+    → Replies m m' (record_in a' lent') text → Replies m m' r text
+as_read {m} {m'} {text} {r} {lent} {lent'} {a} {a'} p size e d =
+    subst (λ q. Replies m m' q text) (sym (record_handed p size ∙ ap (λ (l : Option Line). record_in l lent') e)) d
 
 -- a block that was read lies within the lent array
-pub block_fits : {r : Record} {lent lent' : List ℕ} {a : Line} {n : ℕ} → Parsed r lent lent' a → length lent ≡ 200 → a ≡ line.Submit n → n ≤ length lent'
+pub block_fits : {r : Record} {lent lent' : List ℕ} {a : Option Line} {n : ℕ} → Parsed r lent lent' a → length lent ≡ 200 → a ≡ Some (line.Submit n) → n ≤ length lent'
 block_fits {n = n} p size e = subst (λ (k : ℕ). n ≤ k) (sym (same_size p ∙ size)) (subst room e p.fits)
 
-pub block_short : {r : Record} {lent lent' : List ℕ} {a : Line} {n : ℕ} → Parsed r lent lent' a → length lent ≡ 200 → a ≡ line.Submit n → length (take n lent') ≤ 200
+pub block_short : {r : Record} {lent lent' : List ℕ} {a : Option Line} {n : ℕ} → Parsed r lent lent' a → length lent ≡ 200 → a ≡ Some (line.Submit n) → length (take n lent') ≤ 200
 block_short {lent' = lent'} {n = n} p size e = subst (λ (k : ℕ). k ≤ 200) (sym (length-take-le n lent' (block_fits p size e))) (subst room e p.fits)

@@ -7,7 +7,8 @@ ghost use Rattle.lines.specs.Record.{parse, submit, hand_back};
 ghost use Rattle.replay_log.specs.Promise.{Begins, Replies};
 ghost use Rattle.replay_log.specs.Parts.{book_after, store_after, lies_for, book_without};
 
-use board::{HandingBack, Looking, TakingIn, Unit};
+use answers::Text;
+use board::{First, Handed, NotHanded, Refusal, Ticket, Unit};
 use copies::Copies;
 use lines::Line;
 use rows::WORDS;
@@ -33,31 +34,28 @@ impl Model for Replay {
 }
 
 // An accepted block is copied, as it stands then.
-fn keep(answer: TakingIn, copies: &mut Copies, block: &[u8])
+fn keep(answer: Result<Ticket, Refusal>, copies: &mut Copies, block: &[u8])
     ensures { (copies.new.book ≡ book_after answer copies.old.book (length block.now)) × (copies.new.store ≡ store_after answer copies.old.book copies.old.store block.now) }
 {
-    if let TakingIn::Taken(ticket) = answer {
+    if let Ok(ticket) = answer {
         copies.keep(ticket, block);
     }
 }
 
 // Where the copy of the first finished request's block lies.
-fn find(seen: Looking, copies: &Copies) -> Option<Range<usize>>
+fn find(seen: Option<First>, copies: &Copies) -> Option<Range<usize>>
     ensures value { result ≡ lies_for seen copies.now.book }
     ensures bounds { IfSome result (λ r. (r.start ≤ r.end) × (r.end ≤ 6400)) }
 {
-    match seen {
-        Looking::First { ticket, .. } => copies.find(ticket),
-        Looking::Empty => None,
-    }
+    copies.find(seen?.ticket)
 }
 
 // The copy of a block that was handed back is dropped.
-fn forget(answer: HandingBack, copies: &mut Copies)
+fn forget(answer: Result<Handed, NotHanded>, copies: &mut Copies)
     ensures { (copies.new.book ≡ book_without answer copies.old.book) × (copies.new.store ≡ copies.old.store) }
 {
-    if let HandingBack::Handed { ticket, .. } = answer {
-        copies.forget(ticket);
+    if let Ok(handed) = answer {
+        copies.forget(handed.ticket);
     }
 }
 
@@ -78,61 +76,60 @@ impl Replay {
     }
 
     // S: a request is taken in.
-    fn take_in(&mut self, block: &mut [u8], text: &mut [u8; 64]) -> usize
+    fn take_in(&mut self, block: &mut [u8], text: &mut Text)
         requires { length block.old ≤ 200 }
-        ensures { Replies self.old self.new (submit block.old) text.old text.new result }
+        ensures { Replies self.old self.new (submit block.old) text.new }
     {
-        let took = desk::take_in(&mut self.mem, block, self.given);
-        self.given = took.given;
-        keep(took.answer, &mut self.copies, block);
-        answers::taking_in(took.answer, text)
+        let answer = desk::take_in(&mut self.mem, block, &mut self.given);
+        keep(answer, &mut self.copies, block);
+        answers::taking_in(answer, text);
     }
 
     // H: the first finished request is handed back, with the program's own copy of its block, or no bytes where there is none.
-    fn hand_back(&mut self, text: &mut [u8; 64]) -> usize
-        ensures { Replies self.old self.new hand_back text.old text.new result }
+    fn hand_back(&mut self, text: &mut Text)
+        ensures { Replies self.old self.new hand_back text.new }
     {
         let seen = desk::look(&self.mem);
         let part = find(seen, &self.copies).unwrap_or(0..0);
         let store = &mut self.copies.store;
         let answer = desk::hand_back(&mut self.mem, &mut store[part]);
         forget(answer, &mut self.copies);
-        answers::handing_back(answer, text)
+        answers::handing_back(answer, text);
     }
 
-    // A line without its line feed, answered at the start of `text`. How many bytes its answer has.
-    pub fn answer_line(&mut self, line: &[u8], text: &mut [u8; 64]) -> usize
-        ensures { Replies self.old self.new (parse line.now) text.old text.new result }
+    // A line without its line feed: its answer becomes the text.
+    pub fn answer_line(&mut self, line: &[u8], text: &mut Text)
+        ensures { Replies self.old self.new (parse line.now) text.new }
     {
         let mut block = [0u8; 200];
-        match lines::parse_line(line, &mut block) {
+        let Ok(read) = lines::parse_line(line, &mut block) else {
+            answers::malformed(text);
+            return;
+        };
+        match read {
             Line::Submit(n) => self.take_in(&mut block[..n], text),
             Line::Send => {
                 let went = desk::send(&mut self.mem, self.clock, self.mark);
                 self.mark = went.mark;
-                answers::sending(went.answer, text)
+                answers::sending(went.answer, text);
             }
             Line::Event(ticket, what, moved) => {
-                answers::reporting(desk::report(&mut self.mem, ticket, what, moved), text)
+                answers::reporting(desk::report(&mut self.mem, ticket, what, moved), text);
             }
             Line::Abort(ticket) => answers::aborting(desk::abort(&mut self.mem, ticket), text),
-            Line::Freeze(n) => {
-                answers::freezing(desk::freeze(&mut self.mem, board::unit_numbered(n)), text)
-            }
+            Line::Freeze(n) => answers::freezing(desk::freeze(&mut self.mem, Unit::from(n)), text),
             Line::Release(n) => {
-                answers::releasing(desk::release(&mut self.mem, board::unit_numbered(n)), text)
+                answers::releasing(desk::release(&mut self.mem, Unit::from(n)), text);
             }
             Line::Tick => {
-                let clock = desk::tick(&mut self.mem, self.clock);
-                self.clock = clock;
-                answers::ticking(clock, text)
+                self.clock = desk::tick(&mut self.mem, self.clock);
+                answers::ticking(self.clock, text);
             }
             Line::Reset => {
                 desk::reset(&mut self.mem);
-                answers::resetting(text)
+                answers::resetting(text);
             }
             Line::HandBack => self.hand_back(text),
-            Line::Malformed => answers::malformed(text),
         }
     }
 }

@@ -15,4 +15,4 @@ returns c = let o = c.self.inside in
     let within = part_within _ c.find.ensures.bounds in
     let there : c.unwrap_or-part.result ≡ unwrap_or (lies_for c.look-seen.result o.copies.book) nowhere = c.unwrap_or-part.ensures ∙ ap (λ r. unwrap_or r nowhere) c.find.ensures.value in
     rw (← c.self.view_is, c.forget.ensures.0, c.forget.ensures.1)
-    (gave _ _ _ _ _ _ c.look-seen.result _ _ c.hand_back-answer.result _ _ _ (c.look-seen.ensures _) (ap (λ r. r.start) there) (ap (λ r. r.end) there) (lends _ _ _ _ _ _ _ (rw c.unwrap_or-part.ensures within.0) (rw (c.unwrap_or-part.ensures, size) within.1) c.hand_back-answer.auto.block c.hand_back-answer.ensures) c.handing_back.ensures)
+    (gave _ _ _ _ _ _ c.look-seen.result _ _ c.hand_back-answer.result _ (c.look-seen.ensures _) (ap (λ r. r.start) there) (ap (λ r. r.end) there) (lends _ _ _ _ _ _ _ (rw c.unwrap_or-part.ensures within.0) (rw (c.unwrap_or-part.ensures, size) within.1) c.hand_back-answer.auto.block c.hand_back-answer.ensures) c.handing_back.ensures)
