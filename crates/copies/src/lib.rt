@@ -30,6 +30,7 @@ pub fn copy(dst: &mut [u8], at: usize, src: &[u8])
     }
 }
 
+// (A struct for each slot is no plainer: a search reads the numbers alone, and the definitions read words.)
 #[derive(Drop)]
 pub struct Copies {
     pub book: [u32; BOOK],

@@ -15,6 +15,7 @@ use rows::WORDS;
 use std::marker::Model;
 use std::ops::Range;
 
+// In clauses a `Replay` is the memory of specs/Memory.antt.
 #[derive(Drop)]
 pub struct Replay {
     mem: [u32; WORDS],
@@ -91,6 +92,7 @@ impl Replay {
     {
         let seen = desk::look(&self.mem);
         let part = find(seen, &self.copies).unwrap_or(0..0);
+        // (A name of its own, by which the proof knows how long it is.)
         let store = &mut self.copies.store;
         let answer = desk::hand_back(&mut self.mem, &mut store[part]);
         forget(answer, &mut self.copies);
