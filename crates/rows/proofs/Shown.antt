@@ -6,9 +6,9 @@ use native.Mathlib.Decide.{ℕ_discrete}
 use mathlib.Core.Path.{◌≡◌, refl, sym, ap, ◌∙◌, subst}
 use mathlib.Core.Logic.{by_cases}
 use mathlib.Core.List.{List, [], ◌∷◌, ◌++◌, map}
-use borrow.Author.Tests.{lt-ltb, le-ltb, le-leb, lt-leb}
+use borrow.Author.Tests.{lt-ltb, le-ltb}
 use lib.ListN.{length}
-use Rattle.rows.specs.Words.{next, owner, head, length_from}
+use Rattle.rows.specs.Words.{next, owner, head}
 use Rattle.rows.specs.Rows.{Run, Row, Linked, put, total, walk, row_of, SoundRows}
 use Rattle.rows.proofs.Links.{put_same, put_other}
 
@@ -79,17 +79,6 @@ module _ (m : List ℕ) (v : SoundRows m) where
       go : (l : List ℕ) → Run m k (head m k) l → (more : List ℕ) × (l ≡ head m k ∷ more)
       go [] r = absurd (omega (arith, r))
       go (p ∷ l) r = (l, ap (λ (z : ℕ). z ∷ l) (sym r.0))
-
--- how many places the walk counts
-length_run : (fuel : ℕ) (m : List ℕ) (k h : ℕ) (l : List ℕ) → length l ≤ fuel → Run m k h l → length_from fuel m h ≡ length l
-unfolding length_from
-length_run zero m k h [] b r = refl
-length_run zero m k h (p ∷ l) b r = absurd (omega arith)
-length_run (suc fuel) m k h [] b r = rw (le-leb 32 h r)
-length_run (suc fuel) m k h (p ∷ l) b r = rw (r.0, lt-leb 32 p r.1) (let e = length_run fuel m k (next m p) l (omega arith) r.4 in omega arith)
-
-pub length_row : (m : List ℕ) → SoundRows m → (k : ℕ) → k < 67 → length_from 32 m (head m k) ≡ length (row_of m k)
-length_row m v k h = length_run 32 m k (head m k) (row_of m k) (row_short m v k h) (run_of m v k h)
 
 -- ---- what is read at the places of a row
 
