@@ -1,15 +1,17 @@
 -- The walk along a row, a place at a time. Assumes nothing.
-use Prim.Native.Nat.{ℕ, zero, suc, ◌+◌, ◌-◌, ◌<◌, ◌≤◌, min}
+use Prim.Native.Nat.{ℕ, zero, suc, ◌+◌, ◌-◌, ◌<◌, ◌≤◌}
 use native.Mathlib.Omega.{arith}
 use mathlib.Core.Path.{◌≡◌, refl, ap, ◌∙◌}
 use mathlib.Core.Logic.{◌≢◌}
 use mathlib.Core.List.{List, [], ◌∷◌}
 use mathlib.Core.Bool.{Bool, true, false, cond}
 use lib.Dec.{ltb}
-use borrow.Author.Tests.{le-ltb, lt-ltb}
+use borrow.Author.Tests.{le-ltb, lt-ltb, eq-eqb, ne_eqb}
 use lib.ListN.{length}
-use Rattle.rows.specs.Words.{next, head}
+use Rattle.rows.specs.Words.{next, head, ticket_at}
 use Rattle.rows.specs.Rows.{walk, row_of}
+use Rattle.rows.specs.Searches.{spot, seek_along}
+use Rattle.std.specs.Prelude.{Option, Some}
 
 pub walk_none : (m : List ℕ) (n h : ℕ) → n ≡ 0 → walk n m h ≡ []
 unfolding walk
@@ -45,3 +47,13 @@ walk_of_row m k = refl
 pub row_of_short : (m : List ℕ) (k : ℕ) → length (row_of m k) ≤ 32
 unfolding row_of
 row_of_short m k = walk_short m 32 (head m k)
+
+-- ---- a search, a place at a time
+
+pub seek_here : (m : List ℕ) (t : ℕ) (q : Option ℕ) (p : ℕ) (l : List ℕ) → ticket_at m p ≡ t → seek_along m t q (p ∷ l) ≡ Some (spot q p)
+unfolding seek_along
+seek_here m t q p l e = rw (eq-eqb (ticket_at m p) t e)
+
+pub seek_on : (m : List ℕ) (t : ℕ) (q : Option ℕ) (p : ℕ) (l : List ℕ) → ticket_at m p ≢ t → seek_along m t q (p ∷ l) ≡ seek_along m t (Some p) l
+unfolding seek_along
+seek_on m t q p l e = rw (ne_eqb (ticket_at m p) t e)

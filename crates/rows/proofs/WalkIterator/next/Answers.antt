@@ -18,8 +18,6 @@ returns-clause-steps c = walk_more _ _ _ c.if-self-eq0.false c.if-self-ge-PLACES
 
 pub returns-clause-goes : goal.returns-clause-goes
 unfolding places_left
-returns-clause-goes c = record {
-  on = λ _. (tt, tt, omega (arith, ap length (walk_more _ _ _ c.if-self-eq0.false c.if-self-ge-PLACES.false)));
-  keeps = tt;
-  rests = λ _. tt;
-}
+returns-clause-goes c = let w = c.args.self.now in
+    let e = walk_more w.mem.now w.left w.at c.if-self-eq0.false c.if-self-ge-PLACES.false in
+    record { on = λ _. (tt, tt, omega (arith, ap length e)); keeps = tt; rests = λ _. tt }
