@@ -6,9 +6,12 @@ use native.Mathlib.Decide.{ℕ_discrete}
 use mathlib.Core.Path.{◌≡◌, refl, sym, ap, ◌∙◌, subst}
 use mathlib.Core.Logic.{by_cases}
 use mathlib.Core.List.{List, [], ◌∷◌, ◌++◌, map}
-use borrow.Author.Tests.{lt-ltb, le-ltb}
+use mathlib.Core.Bool.{Bool, true, false, cond}
+use borrow.Author.Tests.{lt-ltb, le-ltb, ltb-true, ltb-false}
+use lib.Dec.{ltb}
 use lib.ListN.{length}
-use Rattle.rows.specs.Words.{next, owner, head}
+use Rattle.std.specs.Prelude.{None, Some}
+use Rattle.rows.specs.Words.{next, owner, head, as_place}
 use Rattle.rows.specs.Rows.{Run, Row, Linked, put, total, walk, row_of, SoundRows}
 use Rattle.rows.proofs.Links.{put_same, put_other}
 
@@ -79,6 +82,21 @@ module _ (m : List ℕ) (v : SoundRows m) where
       go : (l : List ℕ) → Run m k (head m k) l → (more : List ℕ) × (l ≡ head m k ∷ more)
       go [] r = absurd (omega (arith, r))
       go (p ∷ l) r = (l, ap (λ (z : ℕ). z ∷ l) (sym r.0))
+
+-- what naming the first place of a row says of it, whatever the words hold
+pub first_some : (m : List ℕ) (k p : ℕ) → as_place (head m k) ≡ Some p → (head m k ≡ p) × (p < 32)
+first_some m k p = go (ltb (head m k) 32) refl
+  where
+    go : (c : Bool) → ltb (head m k) 32 ≡ c → cond c (Some (head m k)) None ≡ Some p → (head m k ≡ p) × (p < 32)
+    go true l e = let z : head m k ≡ p = cc in (z, subst (λ x. x < 32) z (ltb-true (head m k) 32 l))
+    go false l e = let z : ◌≡◌ {A = ℕ} 0 1 = cc in absurd (omega arith)
+
+pub first_none : (m : List ℕ) (k : ℕ) → as_place (head m k) ≡ None → 32 ≤ head m k
+first_none m k = go (ltb (head m k) 32) refl
+  where
+    go : (c : Bool) → ltb (head m k) 32 ≡ c → cond c (Some (head m k)) None ≡ None → 32 ≤ head m k
+    go true l e = let z : ◌≡◌ {A = ℕ} 0 1 = cc in absurd (omega arith)
+    go false l e = ltb-false (head m k) 32 l
 
 -- ---- what is read at the places of a row
 

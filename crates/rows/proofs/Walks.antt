@@ -1,7 +1,7 @@
 -- The walk along a row, a place at a time. Assumes nothing.
-use Prim.Native.Nat.{ℕ, zero, suc, ◌+◌, ◌-◌, ◌<◌, ◌≤◌}
+use Prim.Native.Nat.{ℕ, zero, suc, ◌-◌, ◌<◌, ◌≤◌}
 use native.Mathlib.Omega.{arith}
-use mathlib.Core.Path.{◌≡◌, refl, ap, ◌∙◌}
+use mathlib.Core.Path.{◌≡◌, refl, ap}
 use mathlib.Core.Logic.{◌≢◌}
 use mathlib.Core.List.{List, [], ◌∷◌}
 use mathlib.Core.Bool.{Bool, true, false, cond}
@@ -38,11 +38,6 @@ walk_short m (suc n) h = go (ltb h 32) (walk_short m n (next m h))
     go : (c : Bool) → length (walk n m (next m h)) ≤ n → length (cond c (h ∷ walk n m (next m h)) []) ≤ suc n
     go true i = omega arith
     go false i = omega arith
-
--- a row is walked in 32 steps
-pub walk_of_row : (m : List ℕ) (k : ℕ) → walk 32 m (head m k) ≡ row_of m k
-unfolding row_of
-walk_of_row m k = refl
 
 pub row_of_short : (m : List ℕ) (k : ℕ) → length (row_of m k) ≤ 32
 unfolding row_of

@@ -26,12 +26,13 @@ pub struct Place(pub usize);
 
 impl Model for Place {
     ghost use Rattle.std.specs.Prelude.{ℕ, ◌<◌};
+    ghost use Rattle.rows.specs.declared.TheConstants.{PLACES};
 
     ghost Value = { ℕ };
 
     ghost view = { λ p. p.0 };
 
-    ghost invariant = { λ p. p.0 < 32 };
+    ghost invariant = { λ p. p.0 < PLACES };
 
     ghost inverse = { λ n. record { 0 = n } };
 }
@@ -42,12 +43,13 @@ pub struct Row(pub usize);
 
 impl Model for Row {
     ghost use Rattle.std.specs.Prelude.{ℕ, ◌<◌};
+    ghost use Rattle.rows.specs.declared.TheConstants.{ROWS};
 
     ghost Value = { ℕ };
 
     ghost view = { λ k. k.0 };
 
-    ghost invariant = { λ k. k.0 < 67 };
+    ghost invariant = { λ k. k.0 < ROWS };
 
     ghost inverse = { λ n. record { 0 = n } };
 }
@@ -170,6 +172,7 @@ impl<'a> Iterator for Walk<'a> {
 
     ghost remaining = { item_count places_left };
 
+    #[tactic(auto, using(crate::proofs::Walks::walk_none, crate::proofs::Walks::walk_end, crate::proofs::Walks::walk_more), unfolding(crate::specs::Searches::places_left))]
     fn next(&mut self) -> Option<Place> {
         if self.left == 0 || self.at >= PLACES {
             return None;
@@ -194,6 +197,7 @@ pub fn places_of<'a>(mem: &'a [u32; WORDS], row: Row) -> Walk<'a>
 }
 
 // Along a row: the first place with this ticket, and the one before it.
+#[tactic(auto, using(crate::proofs::Walks::seek_here, crate::proofs::Walks::seek_on), unfolding(crate::specs::Searches::seek_along))]
 pub fn seek(mem: &[u32; WORDS], row: Row, ticket: Ticket) -> Option<Spot>
     ensures { result ≡ spot_of mem.now row ticket.0 }
 {
@@ -226,6 +230,7 @@ pub fn length_of(mem: &[u32; WORDS], row: Row) -> usize
 }
 
 // Every place is in row 0, and the other rows are empty, whatever the words held.
+#[tactic(auto, using(crate::proofs::Fresh::begun_none, crate::proofs::Fresh::begun_more))]
 pub fn begin(mem: &mut [u32; WORDS])
     ensures { Begun mem.new }
 {

@@ -1,6 +1,5 @@
 -- `rows::smallest` meets its contract. Assumes nothing.
-use Rattle.std.proofs.Common.{rules, tests, ◌≡◌, min, map, ap, sym, ◌∙◌}
-use Rattle.std.specs.List.{reduce}
+use Rattle.std.proofs.Common.{rules, tests, ◌≡◌, ap, sym, ◌∙◌}
 use Rattle.std.specs.Option.{option_map}
 use Rattle.std.proofs.lemmas.Iterator.{YieldsList-from_map}
 use Rattle.std.proofs.lemmas.Iterator.Adapters.{option_map_id}
