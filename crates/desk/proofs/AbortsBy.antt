@@ -160,3 +160,7 @@ abort_active_done m r t x o at =
 pub abort_refused : (m : List ℕ) (r : Rest) (t : Ticket) → WaitsOn m t.0 None → spot_of m 2 t.0 ≡ None → Does m m r r (abort t) (refused 0x03) []
 unfolding step aborting aborted asked
 abort_refused m r t o e = unchanged (refused 0x03) [] (λ v. rw (waits_nowhere m r t v o, active_none m r t e v))
+
+-- one unit more without it
+pub none_more : (m : List ℕ) (t u : ℕ) → NoneBelow m t u → spot_of m (3 + u) t ≡ None → NoneBelow m t (u + 1)
+none_more m t u e here w h = by_cases (ℕ_discrete w u) (λ z. subst (λ i. spot_of m (3 + i) t ≡ None) (sym z) here) (λ d. e w (omega arith))

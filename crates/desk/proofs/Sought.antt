@@ -1,13 +1,25 @@
--- What a search by ticket along row k finds, said of the row. Assumes nothing.
-use Rattle.std.proofs.Common.{◌≡◌, ℕ, ◌≢◌, List, ◌∷◌, ◌++◌, sym, ap, ◌∙◌, arith}
+-- What the first place of row k, and a search by ticket along it, say of the row. Assumes nothing.
+use Rattle.std.proofs.Common.{◌≡◌, ℕ, ◌<◌, ◌≢◌, List, [], ◌∷◌, ◌++◌, sym, ap, ◌∙◌, arith}
 use Rattle.std.specs.Prelude.{Option, None, Some}
 use Rattle.board.specs.declared.Ticket.{Ticket}
 use Rattle.board.specs.Plain.{Each}
 use Rattle.rows.specs.declared.Spot.{Spot}
-use Rattle.rows.specs.Words.{ticket_at}
-use Rattle.rows.specs.Rows.{row_of}
+use Rattle.rows.specs.Words.{head, as_place, ticket_at}
+use Rattle.rows.specs.Rows.{row_of, SoundRows}
 use Rattle.rows.specs.Searches.{spot, spot_of}
 use Rattle.rows.proofs.Search.{last_of, Seeks, seeks_at, seeks_nowhere, seek_row}
+use Rattle.rows.proofs.Shown.{first_some, first_none, row_some, row_none}
+
+-- the row begins with its first place
+pub row_first : (m : List ℕ) → SoundRows m → (k p : ℕ) → k < 67 → as_place (head m k) ≡ Some p → (more : List ℕ) × (row_of m k ≡ p ∷ more)
+row_first m v k p h e =
+    let f = first_some m k p e in
+    let r = row_some m v k h (omega (arith, f.0, f.1)) in
+    (r.0, r.1 ∙ ap (λ x. x ∷ r.0) f.0)
+
+-- or is empty
+pub row_empty : (m : List ℕ) → SoundRows m → (k : ℕ) → k < 67 → as_place (head m k) ≡ None → row_of m k ≡ []
+row_empty m v k h e = row_none m v k h (first_none m k e)
 
 -- no place of the row has the ticket
 pub not_sought : (m : List ℕ) (k : ℕ) (t : Ticket) → spot_of m k t.0 ≡ None → Each (λ x. ticket_at m x ≢ t.0) (row_of m k)

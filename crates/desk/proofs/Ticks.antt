@@ -154,15 +154,35 @@ places_named n m h = go (ltb h 32) refl
     go true e = refl
     go false e = sym (walk_end m n h (ltb-false h 32 e))
 
--- one marked
-pub mark_more : (n : ℕ) (m : List ℕ) (clock p : ℕ) → n ≢ 0 → p < 32
-    → all_marked m clock (walk n m p) ≡ all_marked (marked m p clock) clock (places_from (n - 1) (marked m p clock) (as_place (next (marked m p clock) p)))
+-- the walk begins with the whole row
+pub walk_begun : (m : List ℕ) → row_of m 2 ≡ places_from 32 m (as_place (head m 2))
+unfolding row_of
+walk_begun m = sym (places_named 32 m (head m 2))
+
+-- it ends with no place left
+pub walk_over : (m : List ℕ) (clock n : ℕ) (at : Option ℕ) → n ≡ 0 → all_marked m clock (places_from n m at) ≡ m
+unfolding all_marked walk
+walk_over m clock n at e = ap (λ z. all_marked m clock (places_from z m at)) e ∙ go at
+  where
+    go : (o : Option ℕ) → all_marked m clock (places_from 0 m o) ≡ m
+    go None = refl
+    go (Some p) = refl
+
+pub walk_ended : (m : List ℕ) (clock n : ℕ) (at : Option ℕ) → at ≡ None → all_marked m clock (places_from n m at) ≡ m
 unfolding all_marked
-mark_more n m clock p z h =
-    let s = marked_links m p clock h m (same_links m) in
-    ap (all_marked m clock) (walk_more m n p z h)
-    ∙ ap (all_marked (marked m p clock) clock)
-    (sym (places_named (n - 1) (marked m p clock) (next (marked m p clock) p) ∙ (ap (walk (n - 1) (marked m p clock)) (s.links p (omega arith)) ∙ same_walk (n - 1) m (marked m p clock) (next m p) s)))
+walk_ended m clock n at e = ap (λ o. all_marked m clock (places_from n m o)) e
+
+-- one more is marked
+pub mark_more : (m : List ℕ) (clock i p : ℕ) → i < 32 → p < 32
+    → all_marked m clock (places_from (32 - i) m (Some p)) ≡ all_marked (marked m p clock) clock (places_from (32 - (i + 1)) (marked m p clock) (as_place (next (marked m p clock) p)))
+unfolding all_marked
+mark_more m clock i p l h =
+    let m' = marked m p clock in
+    let n = 32 - (i + 1) in
+    let s : SameLinks m m' = marked_links m p clock h m (same_links m) in
+    let left : (32 - i) - 1 ≡ n = omega arith in
+    ap (all_marked m clock) (walk_more m (32 - i) p (omega arith) h ∙ ap (λ z. p ∷ walk z m (next m p)) left)
+    ∙ ap (all_marked m' clock) (sym (places_named n m' (next m' p) ∙ (ap (walk n m') (s.links p (omega arith)) ∙ same_walk n m m' (next m p) s)))
 
 -- ---- the board: all active requests are marked, and the clock is the new one
 

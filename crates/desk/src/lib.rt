@@ -109,6 +109,7 @@ fn unit_at(mem: &[u32; WORDS], place: Place) -> KnownUnit
 // ---- a fresh board
 
 // No unit is frozen.
+#[tactic(auto, using(crate::proofs::Begins::cleared_none, crate::proofs::Begins::cleared_next))]
 fn clear_freezes(mem: &mut [u32; WORDS])
     ensures { mem.new ≡ cleared 64 mem.old }
 {
@@ -119,6 +120,7 @@ fn clear_freezes(mem: &mut [u32; WORDS])
 
 // A fresh board, from any words: all places free, no unit frozen. The clock is 0, the mark 63 and no ticket given: they are the
 // caller's to set.
+#[tactic(auto, using(crate::proofs::Begins::begins))]
 pub fn fresh(mem: &mut [u32; WORDS])
     ensures { Fresh mem.new }
 {
@@ -129,6 +131,7 @@ pub fn fresh(mem: &mut [u32; WORDS])
 // ---- taking in
 
 // A live request has this address: a look along the plane of addresses, free places aside.
+#[tactic(auto, using(crate::proofs::Held::held_none, crate::proofs::Held::held_next))]
 fn address_held(mem: &[u32; WORDS], address: u32) -> bool
     ensures { result ≡ held_to 32 mem.now address }
 {
@@ -212,6 +215,7 @@ pub fn take_in(mem: &mut [u32; WORDS], block: &mut [u8], given: &mut u32) -> Res
 // ---- the finished line
 
 // Look at the finished line: the first ticket, address, callback and whether callback is wanted, or "empty".
+#[tactic(auto, using(crate::proofs::Looks::look_empty, crate::proofs::Looks::look_first))]
 pub fn look(mem: &[u32; WORDS]) -> Option<First>
     ensures { (rest : Rest) → Does mem.now mem.now rest rest look (looking_says result) [] }
 {
@@ -270,6 +274,7 @@ fn can_go(mem: &[u32; WORDS], unit: KnownUnit) -> bool
 
 // Look at units from mark + 1 round to the mark itself, and stop at the first eligible one. (Document 01 names the form: a loop that
 // breaks with the found unit and its count, or ends with none.)
+#[tactic(auto, using(crate::proofs::Eligible::rotation_over, crate::proofs::Eligible::rotation_stop, crate::proofs::Eligible::rotation_next))]
 fn rotate(mem: &[u32; WORDS], mark: Unit) -> Option<Found>
     ensures { result ≡ rotation (can_send mem.now) mark 64 1 }
 {
@@ -374,6 +379,7 @@ fn finished_at(mem: &[u32; WORDS], place: Place) -> Finished
 }
 
 // Hand back with a lent block: its seven bytes are written, and the first finished request is removed; its place is free.
+#[tactic(auto, using(crate::proofs::HandsBack::hand_back_empty, crate::proofs::HandsBack::hand_back_other, crate::proofs::HandsBack::hand_back_first))]
 pub fn hand_back(mem: &mut [u32; WORDS], block: &mut [u8]) -> Result<Handed, NotHanded>
     ensures { HandsBack mem.old mem.new block.old block.new (handing_back_says result) }
 {
@@ -456,6 +462,7 @@ fn report_at(mem: &mut [u32; WORDS], spot: Spot, what: Event, moved: u32) -> Res
 }
 
 // The adapter reports an event on a ticket, with the bytes moved.
+#[tactic(auto, using(crate::proofs::Reports::report_none, crate::proofs::Reports::report_some))]
 pub fn report(
     mem: &mut [u32; WORDS],
     ticket: Ticket,
@@ -464,8 +471,8 @@ pub fn report(
 ) -> Result<(), Unreported>
     ensures { (rest : Rest) → Does mem.old mem.new rest rest (event ticket what moved) (reporting_says result) [] }
 {
-    let spot = rows::seek(mem, ACTIVE, ticket).ok_or(Unreported::NotActive)?;
-    report_at(mem, spot, what, moved)
+    let Spot { before, place } = rows::seek(mem, ACTIVE, ticket).ok_or(Unreported::NotActive)?;
+    report_at(mem, Spot { before, place }, what, moved)
 }
 
 // ---- abort
@@ -478,6 +485,7 @@ struct Waiting {
 }
 
 // The first unit on which the ticket waits, and where.
+#[tactic(auto, using(crate::proofs::AbortsBy::none_more))]
 fn waits_on(mem: &[u32; WORDS], ticket: Ticket) -> Option<Waiting>
     ensures { WaitsOn mem.now ticket.0 result }
 {
@@ -511,6 +519,7 @@ fn end_waiting(mem: &mut [u32; WORDS], unit: KnownUnit, spot: Spot)
 }
 
 // Abort by ticket: waiting ends at once, active is marked asked, else refusal 03h.
+#[tactic(auto, using(crate::proofs::AbortsBy::abort_waiting_done, crate::proofs::AbortsBy::abort_active_done, crate::proofs::AbortsBy::abort_refused))]
 pub fn abort(mem: &mut [u32; WORDS], ticket: Ticket) -> Result<(), UnableToAbort>
     ensures { (rest : Rest) → Does mem.old mem.new rest rest (abort ticket) (aborting_says result) [] }
 {
@@ -538,6 +547,7 @@ fn mark_if_late(mem: &mut [u32; WORDS], place: Place, clock: u32)
 }
 
 // Each active request that is late at this time is overdue.
+#[tactic(auto, using(crate::proofs::Ticks::walk_begun, crate::proofs::Ticks::walk_ended, crate::proofs::Ticks::walk_over, crate::proofs::Ticks::mark_more))]
 fn mark_late(mem: &mut [u32; WORDS], clock: u32)
     ensures { mem.new ≡ all_marked mem.old clock (row_of mem.old 2) }
 {
@@ -552,6 +562,7 @@ fn mark_late(mem: &mut [u32; WORDS], clock: u32)
 }
 
 // Tick: the clock counts seconds in 32 bits and goes round; each active request that is late by then is overdue, and stays so.
+#[tactic(auto, using(crate::proofs::Ticks::tick_does))]
 pub fn tick(mem: &mut [u32; WORDS], clock: u32) -> u32
     ensures { Ticks mem.old mem.new clock result }
 {
@@ -584,6 +595,7 @@ fn smallest_spot(mem: &[u32; WORDS]) -> Option<Spot>
 }
 
 // Bus reset: every active request ends, smallest ticket first.
+#[tactic(auto, using(crate::proofs::ResetsAll::none_reset, crate::proofs::ResetsAll::one_reset, crate::proofs::ResetsAll::reset_none, crate::proofs::ResetsAll::reset_over))]
 pub fn reset(mem: &mut [u32; WORDS])
     ensures { (rest : Rest) → Does mem.old mem.new rest rest reset done [] }
 {
