@@ -143,7 +143,6 @@ fn address_held(mem: &[u32; WORDS], address: u32) -> bool
 }
 
 // A request is written at a place.
-#[tactic(auto, unfolding(crate::specs::Words::written, crate::specs::Words::stores))]
 fn write_request(mem: &mut [u32; WORDS], place: Place, q: Request)
     ensures { mem.new ≡ written mem.old place q }
 {
@@ -182,6 +181,7 @@ fn enter(mem: &mut [u32; WORDS], place: Place, q: Request, front: bool)
 
 // A block is let in: checks 1 to 8 on the block, 9 to 11 on the board, first that applies; else its request gets the next ticket and
 // waits. (Byte 7 is written afterwards.)
+#[tactic(auto, using(crate::proofs::TakesIn::passes, crate::proofs::TakesIn::places_refuse))]
 fn admit(mem: &mut [u32; WORDS], block: &[u8], given: &mut u32) -> Result<Ticket, Refusal>
     ensures { TakesIn mem.old mem.new block.now (with_status (status_said result) block.now) given.old given.new (taking_in_says result) }
 {
@@ -232,6 +232,7 @@ pub fn look(mem: &[u32; WORDS]) -> Option<First>
 // ---- freeze and release
 
 // A unit's freeze becomes x, whatever it was: whether it was frozen before; refused above 63.
+#[tactic(auto, using(crate::proofs::Freezes::unit_refused, crate::proofs::Freezes::unit_set))]
 fn set_freeze(mem: &mut [u32; WORDS], u: Unit, x: u32) -> Result<bool, NoSuchUnit>
     ensures { FreezeSet mem.old mem.new u.0 x result }
 {
@@ -562,7 +563,6 @@ fn mark_late(mem: &mut [u32; WORDS], clock: u32)
 }
 
 // Tick: the clock counts seconds in 32 bits and goes round; each active request that is late by then is overdue, and stays so.
-#[tactic(auto, using(crate::proofs::Ticks::tick_does))]
 pub fn tick(mem: &mut [u32; WORDS], clock: u32) -> u32
     ensures { Ticks mem.old mem.new clock result }
 {
@@ -595,7 +595,7 @@ fn smallest_spot(mem: &[u32; WORDS]) -> Option<Spot>
 }
 
 // Bus reset: every active request ends, smallest ticket first.
-#[tactic(auto, using(crate::proofs::ResetsAll::none_reset, crate::proofs::ResetsAll::one_reset, crate::proofs::ResetsAll::reset_none, crate::proofs::ResetsAll::reset_over))]
+#[tactic(auto, using(crate::proofs::ResetsAll::reset_over))]
 pub fn reset(mem: &mut [u32; WORDS])
     ensures { (rest : Rest) → Does mem.old mem.new rest rest reset done [] }
 {
