@@ -1,5 +1,5 @@
 -- Taking a request in, on the words: the checks on the block, those on the board, a request that passes. Assumes nothing.
-use Rattle.std.specs.Prelude.{None, Some, Result, Ok, Err, IsErrAnd, if◌then◌else◌}
+use Rattle.std.specs.Prelude.{Option, None, Some, ok_or, Result, Ok, Err, IsErrAnd, if◌then◌else◌}
 use Rattle.std.proofs.Common.{◌≡◌, ℕ, suc, ◌+◌, ◌*◌, ◌<◌, ◌≤◌, Bool, true, false, ◌≢◌, List, [], ◌∷◌, ◌++◌, map, length, set, sym, refl, ap, ◌∙◌, subst, arith, length-set}
 use Rattle.board.specs.declared.Ticket.{Ticket}
 use Rattle.board.specs.declared.Unit.{Unit}
@@ -9,6 +9,7 @@ use Rattle.board.specs.Board.{the_ticket, units, places, last_ticket, Board, liv
 use Rattle.board.specs.Block.{byte, fields, request, with_status}
 use Rattle.board.specs.Answers.{refused, taken, number, taking_in_says}
 use Rattle.board.specs.declared.Refusal.{Refusal}
+use Rattle.board.specs.declared.Refusal.TheVariants as refusal
 use Rattle.board.specs.TakingIn.{Verdict, refuse, accept, address_held, checks_of_block, checks_of_board, verdict, joined, judged, taking_in}
 use Rattle.board.specs.Calls.{take_in, step}
 use Rattle.board.proofs.Choose.{neither, not_below, when_at_most, unless_at_most}
@@ -165,14 +166,18 @@ refuses m s given n e = record {
 }
 
 -- checks 1 to 8: one of them applies
-pub block_refuses : (m : List ℕ) (t : Ticket) (s : List ℕ) (given n : ℕ) → examined t s ≡ checked.refused n → TakesIn m m s (with_status n s) given given (refused n)
+block_refuses : (m : List ℕ) (t : Ticket) (s : List ℕ) (given n : ℕ) → examined t s ≡ checked.refused n → TakesIn m m s (with_status n s) given given (refused n)
 block_refuses m t s given n e = refuses m s given n (λ clock mark v. block_verdict (view m (the_rest clock mark given)) t s n e)
 
 -- as the caller is told of it
+told : (m s : List ℕ) (given : ℕ) (why : Refusal) (r : Result Ticket Refusal) → IsErrAnd r (λ w. w ≡ why) → TakesIn m m s (with_status (number why) s) given given (refused (number why))
+    → TakesIn m m s (with_status (status_said r) s) given given (taking_in_says r)
+told m s given why (Ok x) i h = absurd i
+told m s given why (Err w) i h = subst (λ z. TakesIn m m s (with_status (number z) s) given given (refused (number z))) (sym i) h
+
 pub told_refused : (m : List ℕ) (t : Ticket) (s : List ℕ) (given : ℕ) (why : Refusal) (r : Result Ticket Refusal) → examined t s ≡ checked.refused (number why) → IsErrAnd r (λ w. w ≡ why)
     → TakesIn m m s (with_status (status_said r) s) given given (taking_in_says r)
-told_refused m t s given why (Ok x) e i = absurd i
-told_refused m t s given why (Err w) e i = subst (λ z. TakesIn m m s (with_status (number z) s) given given (refused (number z))) (sym i) (block_refuses m t s given (number why) e)
+told_refused m t s given why r e i = told m s given why r i (block_refuses m t s given (number why) e)
 
 module _ (m : List ℕ) (t : Ticket) (s : List ℕ) (q : Request) (front : Bool) (given : ℕ) (p : Passes t s q front) where
   -- the checks on the board, as the words tell their tests
@@ -189,10 +194,19 @@ module _ (m : List ℕ) (t : Ticket) (s : List ℕ) (q : Request) (front : Bool)
   ticket_refuses h l = refuses m s given 0x05 (λ clock mark v. words_verdict false true _ (the_rest clock mark given) v h (when_at_most l) refl)
 
   -- check 11 applies
-  pub places_refuse : held_to 32 m q.address ≡ false → given < last_ticket → as_place (head m 0) ≡ None → TakesIn m m s (with_status 0x05 s) given given (refused 0x05)
+  places_refuse : held_to 32 m q.address ≡ false → given < last_ticket → as_place (head m 0) ≡ None → TakesIn m m s (with_status 0x05 s) given given (refused 0x05)
   places_refuse h l f =
       refuses m s given 0x05
       (λ clock mark v. words_verdict false false true (the_rest clock mark given) v h (unless_at_most l) (when_at_most (none_free m (the_rest clock mark given) v f)))
+
+  -- as the caller is told of it
+  pub places_told : held_to 32 m q.address ≡ false → given < last_ticket → (f : Result ℕ Refusal) (why : Refusal) (r : Result Ticket Refusal)
+      → f ≡ ok_or (as_place (head m 0)) refusal.CamBusy → f ≡ Err why → IsErrAnd r (λ w. w ≡ why) → TakesIn m m s (with_status (status_said r) s) given given (taking_in_says r)
+  places_told h l f why r n e i = go (as_place (head m 0)) refl (sym n ∙ e)
+    where
+      go : (o : Option ℕ) → as_place (head m 0) ≡ o → ok_or o refusal.CamBusy ≡ Err why → TakesIn m m s (with_status (status_said r) s) given given (taking_in_says r)
+      go None z k = let y : refusal.CamBusy ≡ why = cc in told m s given why r i (subst (λ w. TakesIn m m s (with_status (number w) s) given given (refused (number w))) y (places_refuse h l z))
+      go (Some x) z k = let y : ◌≡◌ {A = ℕ} 0 1 = cc in absurd (omega arith)
 
   -- none of them applies
   accepts : (r : Rest) (i : ℕ) → Valid m r → held_to 32 m q.address ≡ false → r.given < last_ticket → as_place (head m 0) ≡ Some i → verdict (view m r) s ≡ accept

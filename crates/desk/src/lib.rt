@@ -181,7 +181,6 @@ fn enter(mem: &mut [u32; WORDS], place: Place, q: Request, front: bool)
 
 // A block is let in: checks 1 to 8 on the block, 9 to 11 on the board, first that applies; else its request gets the next ticket and
 // waits. (Byte 7 is written afterwards.)
-#[tactic(auto, using(crate::proofs::TakesIn::passes, crate::proofs::TakesIn::places_refuse))]
 fn admit(mem: &mut [u32; WORDS], block: &[u8], given: &mut u32) -> Result<Ticket, Refusal>
     ensures { TakesIn mem.old mem.new block.now (with_status (status_said result) block.now) given.old given.new (taking_in_says result) }
 {
