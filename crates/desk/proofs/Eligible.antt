@@ -1,5 +1,5 @@
 -- Eligibility and the rotation: the loop a step at a time, and that the words' test is the board's. Assumes nothing.
-use Rattle.std.proofs.Common.{◌≡◌, ℕ, zero, suc, ◌+◌, ◌-◌, ◌%◌, ◌<◌, ◌≤◌, Bool, true, false, cond, not, ◌||◌, eqb, leb, ◌≢◌, List, [], ◌∷◌, map, length, sym, refl, ap, ◌∙◌, mod-lt, arith, lit<, eq-eqb, ne_eqb, le-leb}
+use Rattle.std.proofs.Common.{◌≡◌, ℕ, zero, suc, ◌+◌, ◌-◌, ◌%◌, ◌<◌, ◌≤◌, Bool, true, false, not, ◌||◌, eqb, List, [], ◌∷◌, map, refl, ap, ◌∙◌, mod-lt, arith, lit<}
 use Rattle.std.specs.Prelude.{Some, None, is_some, ◌==◌}
 use Rattle.std.specs.List.{list_any}
 use borrow.Author.Tests.{lt-ltb, le-ltb}

@@ -1,6 +1,6 @@
 -- Handing back, on the words. Assumes nothing.
 use Rattle.std.specs.Prelude.{None, Some, if◌then◌else◌}
-use Rattle.std.proofs.Common.{◌≡◌, ℕ, ◌+◌, ◌<◌, ◌≤◌, Bool, true, false, not, ◌≢◌, List, map, sym, refl, ap, ◌∙◌, subst, arith}
+use Rattle.std.proofs.Common.{◌≡◌, ℕ, ◌+◌, ◌<◌, Bool, true, false, not, ◌≢◌, List, map, sym, refl, ap, ◌∙◌, subst, arith}
 use Rattle.board.specs.declared.Finished.{Finished}
 use Rattle.board.specs.declared.Told.{Told}
 use Rattle.board.specs.Board.{with_finished}

@@ -1,20 +1,19 @@
 -- A bus reset, on the words: one active request after the other ends, smallest ticket first. Assumes nothing.
 use Rattle.std.specs.Prelude.{Option, Some, None, option_and_then, if◌then◌else◌}
-use Rattle.std.proofs.Common.{◌≡◌, ℕ, ◌+◌, ◌<◌, ◌≤◌, min, Bool, true, false, not, ◌||◌, ◌≢◌, List, [], ◌∷◌, ◌++◌, map, sym, refl, ap, ◌∙◌, subst, arith}
+use Rattle.std.proofs.Common.{◌≡◌, ℕ, ◌+◌, ◌<◌, ◌≤◌, true, not, ◌||◌, ◌≢◌, List, [], ◌∷◌, ◌++◌, map, sym, refl, ap, ◌∙◌, subst, arith}
 use mathlib.Core.Bool.{or-true}
 use Rattle.board.specs.declared.Ticket.{Ticket}
 use Rattle.board.specs.declared.Request.{Request}
 use Rattle.board.specs.declared.Active.{Active}
 use Rattle.board.specs.declared.End.{End}
 use Rattle.board.specs.declared.Told.{Told}
-use Rattle.board.specs.Plain.{◌=?◌, ◌<?◌, Each}
-use Rattle.board.specs.Board.{the_ticket, without, insert, by_ticket, ticket_of_active, all_waiting, last_ticket, live, with_active}
+use Rattle.board.specs.Plain.{◌=?◌, Each}
+use Rattle.board.specs.Board.{without, insert, by_ticket, ticket_of_active, with_active}
 use Rattle.board.specs.Answers.{done}
 use Rattle.board.specs.Ending.{end_unmoved, told, ended_active}
 use Rattle.board.specs.Calls.{all_ended, resetting, reset, step}
-use Rattle.board.specs.Limits.{Fits}
-use Rattle.board.proofs.Choose.{one_ticket, not_below, when_below, unless_below}
-use Rattle.board.proofs.Weigh.{weigh, one, weigh_append, weigh_map, weigh_length, each_other, weigh_each, each_map, each_by_ticket}
+use Rattle.board.proofs.Choose.{one_ticket, when_below, unless_below}
+use Rattle.board.proofs.Weigh.{weigh, weigh_append, weigh_map, weigh_length, each_map, each_by_ticket}
 use Rattle.ends.specs.Closing.{bad}
 use Rattle.ends.proofs.Laws.{capped_request_same}
 use Rattle.rows.specs.Words.{ticket_at}

@@ -62,7 +62,11 @@ fn known(unit: Unit) -> Result<KnownUnit, NoSuchUnit>
     ensures { result ≡ known unit }
 {
     let u = usize::from(unit.0);
-    if u < UNITS { Ok(KnownUnit(u)) } else { Err(NoSuchUnit) }
+    if u < UNITS {
+        Ok(KnownUnit(u))
+    } else {
+        Err(NoSuchUnit)
+    }
 }
 
 // The row of what waits on a unit, in order.
@@ -113,8 +117,8 @@ fn unit_at(mem: &[u32; WORDS], place: Place) -> KnownUnit
 fn clear_freezes(mem: &mut [u32; WORDS])
     ensures { mem.new ≡ cleared 64 mem.old }
 {
-    for u in 0..UNITS {
-        mem[262 + u] = 0;
+    for unit in 0..UNITS {
+        mem[262 + unit] = 0;
     }
 }
 
@@ -168,8 +172,7 @@ fn enter(mem: &mut [u32; WORDS], place: Place, q: Request, front: bool)
     requires { q.unit.0 < 64 }
     ensures { mem.new ≡ entered mem.old place q front }
 {
-    let unit = KnownUnit(usize::from(q.unit.0));
-    let row = waiting_on(unit);
+    let row = waiting_on(KnownUnit(usize::from(q.unit.0)));
     rows::take_first(mem, FREE, place);
     write_request(mem, place, q);
     if front {
@@ -295,7 +298,7 @@ fn rotate(mem: &[u32; WORDS], mark: Unit) -> Option<Found>
     }
 }
 
-// The first request waiting on a unit is sent: it becomes active, and its start is the clock. Answers the request.
+// The first request waiting on a unit, which has one, is sent: it becomes active, and its start is the clock. Answers the request.
 #[tactic(auto, unfolding(crate::specs::Words::launched, crate::specs::Words::started, crate::specs::Words::stores))]
 fn launch(mem: &mut [u32; WORDS], unit: KnownUnit, clock: u32) -> Request
     requires { head mem.old (3 + unit) < 32 }
@@ -546,7 +549,8 @@ fn mark_if_late(mem: &mut [u32; WORDS], place: Place, clock: u32)
     }
 }
 
-// Each active request that is late at this time is overdue.
+// Each active request that is late at this time is overdue. (Link by link, and no Walk: that would keep the memory from being written
+// on the way.)
 #[tactic(auto, using(crate::proofs::Ticks::walk_begun, crate::proofs::Ticks::walk_ended, crate::proofs::Ticks::walk_over, crate::proofs::Ticks::mark_more))]
 fn mark_late(mem: &mut [u32; WORDS], clock: u32)
     ensures { mem.new ≡ all_marked mem.old clock (row_of mem.old 2) }
@@ -593,7 +597,7 @@ fn smallest_spot(mem: &[u32; WORDS]) -> Option<Spot>
     rows::seek(mem, ACTIVE, ticket)
 }
 
-// Bus reset: every active request ends, smallest ticket first.
+// Bus reset: every active request ends, smallest ticket first. (At most as many as there are places, whatever the links say.)
 #[tactic(auto, using(crate::proofs::ResetsAll::reset_over))]
 pub fn reset(mem: &mut [u32; WORDS])
     ensures { (rest : Rest) → Does mem.old mem.new rest rest reset done [] }
