@@ -1,8 +1,8 @@
 -- Abort by ticket, on the words. Assumes nothing.
-use Rattle.std.proofs.Common.{◌≡◌, ℕ, zero, suc, ◌+◌, ◌<◌, false, List, [], ◌∷◌, ◌++◌, map, sym, refl, ap, ◌∙◌, subst, arith}
+use Rattle.std.proofs.Common.{◌≡◌, ℕ, zero, suc, ◌+◌, ◌<◌, List, [], ◌∷◌, ◌++◌, map, sym, refl, ap, ◌∙◌, subst, arith}
 use native.Mathlib.Decide.{ℕ_discrete}
 use mathlib.Core.Logic.{by_cases}
-use Rattle.std.specs.Prelude.{None, Some}
+use Rattle.std.specs.Prelude.{Option, None, Some}
 use Rattle.board.specs.declared.Ticket.{Ticket}
 use Rattle.board.specs.declared.Unit.{Unit}
 use Rattle.board.specs.declared.Request.{Request}
@@ -10,17 +10,17 @@ use Rattle.board.specs.Board.{the_unit, same_ticket, of_units, units, find, with
 use Rattle.board.specs.Answers.{refused, done}
 use Rattle.board.specs.Ending.{told, end_unmoved, to_finished}
 use Rattle.board.specs.Calls.{ended_waiting, asked, aborted, aborting, abort, step}
-use Rattle.board.proofs.Choose.{both_ifs, none≢some, true≢false}
+use Rattle.board.proofs.Choose.{both_ifs, none≢some}
 use Rattle.board.proofs.Weigh.{find_each}
 use Rattle.ends.proofs.Laws.{capped_request_same}
-use Rattle.rows.specs.Words.{head, the_place, seek_from}
-use Rattle.rows.specs.Rows.{row_of}
 use Rattle.rows.specs.declared.Spot.{Spot}
-use Rattle.rows.specs.declared.Spot.TheVariants.{At, Nowhere}
+use Rattle.rows.specs.Rows.{row_of}
+use Rattle.rows.specs.Searches.{spot_of}
+use Rattle.desk.specs.declared.Waiting.{Waiting}
 use Rattle.desk.specs.Words.{freeze_at, ToldFits}
 use Rattle.desk.specs.View.{request_at, Rest, view, Valid}
 use Rattle.desk.specs.Promise.{Does}
-use Rattle.desk.specs.Aborts.{found, stands, WaitsOn, aborted_told, aborted_words, asked_words}
+use Rattle.desk.specs.Aborts.{NoneBelow, WaitsOn, aborted_told, aborted_words, asked_words}
 use Rattle.desk.proofs.Views.{Leaves, leaves, unchanged, waiting_on, freeze_on}
 use Rattle.desk.proofs.Freezes.{frozen_back}
 use Rattle.desk.proofs.Splits.{find_none, find_parted, without_parted}
@@ -78,27 +78,22 @@ module _ (m : List ℕ) (r : Rest) (t : Ticket) (v : Valid m r) where
   abbrev b : Board
   b = view m r
 
-  unit_none : (w : ℕ) → w < 64 → stands m (3 + w) t.0 ≡ false → find ticket_of_request t (b.waiting (the_unit w)) ≡ None
-  unfolding stands
+  unit_none : (w : ℕ) → w < 64 → spot_of m (3 + w) t.0 ≡ None → find ticket_of_request t (b.waiting (the_unit w)) ≡ None
   unit_none w h e =
       ap (find ticket_of_request t) (waiting_on m r (the_unit w) h)
-      ∙ find_none ticket_of_request m (request_at m) (λ x. refl) t (row_of m (3 + w)) (not_sought m (3 + w) t (go _ e) v.rows (omega arith))
-    where
-      go : (s : Spot) → found s ≡ false → s ≡ Nowhere
-      go (At q p) z = true≢false z
-      go Nowhere z = refl
+      ∙ find_none ticket_of_request m (request_at m) (λ x. refl) t (row_of m (3 + w)) (not_sought m (3 + w) t e)
 
-  waits_nowhere : WaitsOn m t.0 64 → find ticket_of_request t (all_waiting b) ≡ None
-  waits_nowhere o = units_none ticket_of_request t units b.waiting (λ w h. unit_none w h (o.none_before w h))
+  waits_nowhere : WaitsOn m t.0 None → find ticket_of_request t (all_waiting b) ≡ None
+  waits_nowhere o = units_none ticket_of_request t units b.waiting (λ w h. unit_none w h (o w h))
 
-  module _ (u q p : ℕ) (hu : u < 64) (o : WaitsOn m t.0 u) (s : Sought m (3 + u) t q p) where
+  module _ (u : ℕ) (q : Option ℕ) (p : ℕ) (hu : u < 64) (o : NoneBelow m t.0 u) (s : Sought m (3 + u) t q p) where
     found_here : find ticket_of_request t (b.waiting (the_unit u)) ≡ Some (request_at m p)
     found_here =
         ap (find ticket_of_request t) (waiting_on m r (the_unit u) hu ∙ ap (map (request_at m)) s.parted)
         ∙ find_parted ticket_of_request m (request_at m) (λ x. refl) t s.a s.b p s.before s.ticket
 
     found_waiting : find ticket_of_request t (all_waiting b) ≡ Some (request_at m p)
-    found_waiting = units_first ticket_of_request t units u b.waiting (request_at m p) hu (λ w h. unit_none w (omega arith) (o.none_before w h)) found_here
+    found_waiting = units_first ticket_of_request t units u b.waiting (request_at m p) hu (λ w h. unit_none w (omega arith) (o w h)) found_here
 
     -- what waits, waits on its own unit
     own_unit : (request_at m p).unit ≡ the_unit u
@@ -125,29 +120,34 @@ module _ (m : List ℕ) (r : Rest) (t : Ticket) (v : Valid m r) where
 
 -- ---- the call
 
-pub abort_waiting_done : (m : List ℕ) (r : Rest) (t : Ticket) (u q p : ℕ) → u < 64 → WaitsOn m t.0 u → seek_from 32 m t.0 32 (head m (3 + u)) ≡ At (the_place q) (the_place p) → ToldFits (aborted_told m u p)
-    → Does m (aborted_words m u q p) r r (abort t) done []
+pub abort_waiting_done : (m : List ℕ) (r : Rest) (t : Ticket) (x : Waiting) → WaitsOn m t.0 (Some x) → ToldFits (aborted_told m x.unit x.spot.place)
+    → Does m (aborted_words m x.unit x.spot.before x.spot.place) r r (abort t) done []
 unfolding step aborting aborted aborted_words
-abort_waiting_done m r t u q p hu o at f =
+abort_waiting_done m r t x o f =
+    let u = x.unit in
+    let q = x.spot.before in
+    let p = x.spot.place in
+    let s = sought m (3 + u) t q p o.1 in
     leaves
     (λ v.
-    let s = sought m (3 + u) t q p at v.rows (omega arith) in
-    subst (λ y. Leaves (aborted_words m u q p) r done [] (aborted (view m r) t y)) (sym (found_waiting m r t v u q p hu o s))
+    subst (λ y. Leaves (aborted_words m u q p) r done [] (aborted (view m r) t y)) (sym (found_waiting m r t v u q p o.0 o.2 s))
     (record {
-      rows = (finished_carried m (3 + u) q p (aborted_told m u p) s.a s.b v.rows (omega arith) (omega arith) s.parted s.last f).sound;
-      board = aborted_view m r t v u q p hu o s f;
+      rows = (finished_carried m (3 + u) q p (aborted_told m u p) s.a s.b v.rows (omega (arith, o.0)) (omega arith) s.parted s.last f).sound;
+      board = aborted_view m r t v u q p o.0 o.2 s f;
       says = refl;
       lent = refl;
     }))
     (λ n h. let k : ◌≡◌ {A = ℕ} 0 1 = cc in absurd (omega arith))
 
-pub abort_active_done : (m : List ℕ) (r : Rest) (t : Ticket) (q p : ℕ) → WaitsOn m t.0 64 → seek_from 32 m t.0 32 (head m 2) ≡ At (the_place q) (the_place p)
-    → Does m (asked_words m p) r r (abort t) done []
+pub abort_active_done : (m : List ℕ) (r : Rest) (t : Ticket) (x : Spot) → WaitsOn m t.0 None → spot_of m 2 t.0 ≡ Some x
+    → Does m (asked_words m x.place) r r (abort t) done []
 unfolding step aborting aborted asked
-abort_active_done m r t q p o at =
+abort_active_done m r t x o at =
+    let q = x.before in
+    let p = x.place in
+    let s = sought m 2 t q p at in
     leaves
     (λ v.
-    let s = sought m 2 t q p at v.rows (omega arith) in
     rw (waits_nowhere m r t v o, found_active m r t q p s v.rows)
     (record {
       rows = (asked_rows m r t q p s v).0;
@@ -157,15 +157,10 @@ abort_active_done m r t q p o at =
     }))
     (λ n h. let k : ◌≡◌ {A = ℕ} 0 1 = cc in absurd (omega arith))
 
-pub abort_refused : (m : List ℕ) (r : Rest) (t : Ticket) → WaitsOn m t.0 64 → seek_from 32 m t.0 32 (head m 2) ≡ Nowhere → Does m m r r (abort t) (refused 0x03) []
+pub abort_refused : (m : List ℕ) (r : Rest) (t : Ticket) → WaitsOn m t.0 None → spot_of m 2 t.0 ≡ None → Does m m r r (abort t) (refused 0x03) []
 unfolding step aborting aborted asked
 abort_refused m r t o e = unchanged (refused 0x03) [] (λ v. rw (waits_nowhere m r t v o, active_none m r t e v))
 
--- where a unit has it, its row's search doesn't end nowhere
-pub not_nowhere : {A : Type 0} (m : List ℕ) (t u : ℕ) → u < 64 → WaitsOn m t u → seek_from 32 m t 32 (head m (3 + u)) ≡ Nowhere → A
-unfolding stands
-not_nowhere m t u h o e = true≢false (sym (o.here h) ∙ ap found e)
-
 -- one unit more without it
-pub none_more : (m : List ℕ) (t u : ℕ) → ((w : ℕ) → w < u → stands m (3 + w) t ≡ false) → stands m (3 + u) t ≡ false → (w : ℕ) → w < u + 1 → stands m (3 + w) t ≡ false
-none_more m t u e here w h = by_cases (ℕ_discrete w u) (λ z. subst (λ i. stands m (3 + i) t ≡ false) (sym z) here) (λ d. e w (omega arith))
+pub none_more : (m : List ℕ) (t u : ℕ) → NoneBelow m t u → spot_of m (3 + u) t ≡ None → NoneBelow m t (u + 1)
+none_more m t u e here w h = by_cases (ℕ_discrete w u) (λ z. subst (λ i. spot_of m (3 + i) t ≡ None) (sym z) here) (λ d. e w (omega arith))

@@ -1,43 +1,19 @@
--- Eligibility and the rotation: the loops a step at a time, and that the words' test is the board's. Assumes nothing.
-use Rattle.std.proofs.Common.{◌≡◌, ℕ, zero, suc, ◌+◌, ◌-◌, ◌%◌, ◌<◌, ◌≤◌, Bool, true, false, cond, not, ◌||◌, eqb, leb, ◌≢◌, List, [], ◌∷◌, map, length, sym, refl, ap, ◌∙◌, mod-lt, arith, lit<, eq-eqb, ne_eqb, le-leb}
-use Rattle.std.specs.Prelude.{Some, None}
-use borrow.Author.Tests.{lt-leb}
+-- Eligibility and the rotation: the loop a step at a time, and that the words' test is the board's. Assumes nothing.
+use Rattle.std.proofs.Common.{◌≡◌, ℕ, zero, suc, ◌+◌, ◌-◌, ◌%◌, ◌<◌, ◌≤◌, Bool, true, false, not, ◌||◌, eqb, List, [], ◌∷◌, map, refl, ap, ◌∙◌, mod-lt, arith, lit<}
+use Rattle.std.specs.Prelude.{Some, None, is_some, ◌==◌}
+use Rattle.std.specs.List.{list_any}
+use borrow.Author.Tests.{lt-ltb, le-ltb}
 use Rattle.board.specs.declared.Unit.{Unit}
 use Rattle.board.specs.Plain.{any}
 use Rattle.board.specs.Board.{the_unit, units, is_frozen}
 use Rattle.board.specs.Sending.{waits, busy, eligible, after, found, rotation}
-use Rattle.rows.specs.Words.{next, head}
+use Rattle.rows.specs.Words.{head, as_place}
 use Rattle.rows.specs.Rows.{Run, row_of}
-use Rattle.rows.proofs.Shown.{run_of, row_short}
-use Rattle.desk.specs.Words.{field, freeze_at, busy_from, can_send}
+use Rattle.rows.proofs.Shown.{run_of}
+use Rattle.desk.specs.Words.{freeze_at, unit_at, has_active, can_send}
 use Rattle.desk.specs.View.{request_at, active_at, Rest, view, Valid}
 use Rattle.desk.proofs.Views.{waiting_on, freeze_on}
 use Rattle.desk.proofs.Freezes.{frozen_back}
-
--- ---- along the active row, a step at a time
-
-left : (i : ℕ) → i < 32 → 32 - i ≡ suc (32 - (i + 1))
-left i h = omega arith
-
-none_left : (i : ℕ) → 32 ≤ i → 32 - i ≡ 0
-none_left i h = omega arith
-
-module _ (m : List ℕ) (u h i : ℕ) where
-  pub busy_over : 32 ≤ i → busy_from (32 - i) m u h ≡ false
-  unfolding busy_from
-  busy_over l = ap (λ n. busy_from n m u h) (none_left i l)
-
-  pub busy_end : i < 32 → 32 ≤ h → busy_from (32 - i) m u h ≡ false
-  unfolding busy_from
-  busy_end l e = ap (λ n. busy_from n m u h) (left i l) ∙ rw (le-leb 32 h e)
-
-  pub busy_stop : i < 32 → h < 32 → field m h 0 % 64 ≡ u → busy_from (32 - i) m u h ≡ true
-  unfolding busy_from
-  busy_stop l e f = ap (λ n. busy_from n m u h) (left i l) ∙ rw (lt-leb 32 h e, eq-eqb (field m h 0 % 64) u f)
-
-  pub busy_next : i < 32 → h < 32 → field m h 0 % 64 ≢ u → busy_from (32 - i) m u h ≡ busy_from (32 - (i + 1)) m u (next m h)
-  unfolding busy_from
-  busy_next l e f = ap (λ n. busy_from n m u h) (left i l) ∙ rw (lt-leb 32 h e, ne_eqb (field m h 0 % 64) u f)
 
 -- ---- the rotation, a step at a time: after n - 1 units 65 - n are left
 
@@ -65,21 +41,19 @@ rotation_same able can mark (suc fuel) n e = rw (e ((mark.0 + n) % 64) (mod-lt (
 
 -- ---- the words' test is the board's
 
-busy_run : (fuel : ℕ) (m : List ℕ) (k u h : ℕ) (l : List ℕ) → length l ≤ fuel → Run m k h l → busy_from fuel m u h ≡ busy (the_unit u) (map (active_at m) l)
-unfolding busy_from busy any
-busy_run zero m k u h [] b r = refl
-busy_run zero m k u h (p ∷ l) b r = absurd (omega arith)
-busy_run (suc fuel) m k u h [] b r = rw (le-leb 32 h r)
-busy_run (suc fuel) m k u h (p ∷ l) b r = rw (r.0, lt-leb 32 p r.1) (go (eqb (field m p 0 % 64) u) (busy_run fuel m k u (next m p) l (omega arith) r.4))
-  where
-    go : (c : Bool) → busy_from fuel m u (next m p) ≡ busy (the_unit u) (map (active_at m) l) → cond c true (busy_from fuel m u (next m p)) ≡ (c || busy (the_unit u) (map (active_at m) l))
-    go true i = refl
-    go false i = i
+busy_places : (m : List ℕ) (u : ℕ) (l : List ℕ) → busy (the_unit u) (map (active_at m) l) ≡ list_any (λ p. unit_at m p == u) l
+unfolding busy any
+busy_places m u [] = refl
+busy_places m u (p ∷ l) = ap (λ c. (unit_at m p == u) || c) (busy_places m u l)
+
+busy_words : (m : List ℕ) (r : Rest) (u : ℕ) → busy (the_unit u) (view m r).active ≡ has_active m u
+unfolding view has_active
+busy_words m r u = busy_places m u (row_of m 2)
 
 -- a row is empty where its head says so
-waits_run : (m : List ℕ) (k : ℕ) (l : List ℕ) → Run m k (head m k) l → waits (map (request_at m) l) ≡ not (leb 32 (head m k))
-waits_run m k [] r = rw (le-leb 32 (head m k) r)
-waits_run m k (p ∷ l) r = rw (lt-leb 32 (head m k) (omega (arith, r.0, r.1)))
+waits_run : (m : List ℕ) (k : ℕ) (l : List ℕ) → Run m k (head m k) l → waits (map (request_at m) l) ≡ is_some (as_place (head m k))
+waits_run m k [] r = rw (le-ltb (head m k) 32 r)
+waits_run m k (p ∷ l) r = rw (lt-ltb (head m k) 32 (omega (arith, r.0, r.1)))
 
 not_not : (c : Bool) → not (not c) ≡ c
 not_not true = refl
@@ -91,8 +65,5 @@ eligible_words m r v u h =
     rw (
       ap waits (waiting_on m r (the_unit u) h) ∙ waits_run m (3 + u) (row_of m (3 + u)) (run_of m v.rows (3 + u) (omega arith)),
       ap (λ x. not (is_frozen x)) (freeze_on m r (the_unit u) h) ∙ (ap not (frozen_back (freeze_at m u)) ∙ not_not (eqb (freeze_at m u) 0)),
-      busy_words,
+      busy_words m r u,
     )
-  where
-    busy_words : busy (the_unit u) (view m r).active ≡ busy_from 32 m u (head m 2)
-    busy_words = unfold view in sym (busy_run 32 m 2 u (head m 2) (row_of m 2) (row_short m v.rows 2 (omega arith)) (run_of m v.rows 2 (omega arith)))

@@ -1,5 +1,6 @@
 -- A request goes from its row to the back of the finished line, with what its block will be told. What abort, an event and the bus
 -- reset cite. Assumes nothing.
+use Rattle.std.specs.Prelude.{Option, None}
 use Rattle.std.proofs.Common.{◌≡◌, ℕ, ◌+◌, ◌<◌, false, ◌≢◌, List, [], ◌∷◌, ◌++◌, map, sym, refl, ap, ◌∙◌, arith}
 use Rattle.board.specs.declared.Unit.{Unit}
 use Rattle.board.specs.declared.Request.{Request}
@@ -7,14 +8,15 @@ use Rattle.board.specs.declared.Finished.{Finished}
 use Rattle.board.specs.declared.Told.{Told}
 use Rattle.board.specs.Board.{units, with_waiting, with_active, with_finished}
 use Rattle.rows.specs.Words.{cut_out}
-use Rattle.rows.specs.Rows.{Last, row_of, SoundRows}
+use Rattle.rows.specs.Rows.{row_of, SoundRows}
+use Rattle.rows.proofs.Search.{last_of}
 use Rattle.rows.proofs.Carry.{Out, place_out, Carried, carry, read_left, read_same, read_joined}
 use Rattle.desk.specs.Words.{closed, ToldFits, finished_words}
 use Rattle.desk.specs.View.{request_at, active_at, finished_at, Rest, view}
 use Rattle.desk.proofs.Read.{SamePlace, same_request_at, same_finished_at, kept_place, stores_links, stores_other, stores_low, closed_finished}
 use Rattle.desk.proofs.Views.{board_same, waiting_changed, same_waiting, same_freezes, request_others, active_others, finished_others}
 
-module _ (m : List ℕ) (k q p : ℕ) (x : Told) (a b : List ℕ) (v : SoundRows m) (lk : k < 67) (n1 : k ≢ 1) (e : row_of m k ≡ a ++ (p ∷ b)) (la : Last q (32 ∷ a)) (f : ToldFits x) where
+module _ (m : List ℕ) (k : ℕ) (q : Option ℕ) (p : ℕ) (x : Told) (a b : List ℕ) (v : SoundRows m) (lk : k < 67) (n1 : k ≢ 1) (e : row_of m k ≡ a ++ (p ∷ b)) (la : q ≡ last_of None a) (f : ToldFits x) where
   abbrev m₁ : List ℕ
   m₁ = cut_out m k q p
 

@@ -1,20 +1,20 @@
 -- Freeze and release, on the words: one law for both. Assumes nothing.
-use Rattle.std.specs.Prelude.{Result, if◌then◌else◌}
+use Rattle.std.specs.Prelude.{Result, Ok, Err, IsErr, if◌then◌else◌}
 use Rattle.std.proofs.Common.{◌≡◌, ℕ, ◌+◌, ◌<◌, ◌≤◌, Bool, true, false, cond, not, List, [], set, sym, refl, ap, ◌∙◌, subst, arith, get_or-set_same}
 use mathlib.Core.Path.{fun_ext}
 use Rattle.board.specs.declared.Unit.{Unit}
 use Rattle.board.specs.declared.NoSuchUnit.{NoSuchUnit}
-use Rattle.board.specs.Plain.{◌=?◌}
+use Rattle.board.specs.Plain.{◌=?◌, ◌<?◌}
 use Rattle.board.specs.Board.{the_unit, same_unit, at, units, Freeze, no_freeze, is_frozen, freeze_number, one_freeze, one_release, Board, with_freeze}
 use Rattle.board.specs.Answers.{refused, before, bit, Stepped, says, freezing_says}
 use Rattle.board.specs.Calls.{freezing, Call, freeze, release, step}
-use Rattle.board.proofs.Choose.{by_cases, same, differ, when_below, unless_below, one_unit, at_same, at_other}
+use Rattle.board.proofs.Choose.{by_cases, true≢false, same, differ, below, not_below, when_below, unless_below, one_unit, at_same, at_other}
 use Rattle.rows.specs.Rows.{SoundRows}
 use Rattle.rows.proofs.Links.{off}
 use Rattle.rows.proofs.Carry.{SameLinks, same_links, set_links, same_rows, same_read}
 use Rattle.board.specs.Ending.{freeze_after}
 use Rattle.ends.specs.Closing.{bad}
-use Rattle.desk.specs.Words.{freeze_at, word_of, FreezeSet, no_such_unit, freeze_set, frozen_if}
+use Rattle.desk.specs.Words.{known, freeze_at, word_of, FreezeSet, no_such_unit, freeze_set, frozen_if}
 use Rattle.desk.specs.View.{request_at, active_at, finished_at, freeze_of, Rest, view}
 use Rattle.desk.specs.Promise.{Does, Freezes}
 use Rattle.desk.proofs.Read.{SamePlace, same_request_at, same_active_at, same_finished_at}
@@ -98,6 +98,29 @@ ended_freeze m r u n h v = go (n =? 0x01)
     go : (c : Bool) → view (cond (not c) (set m (262 + u) 1) m) r ≡ with_freeze (the_unit u) (if c then z else one_freeze z) b
     go true = ap (λ f. record { waiting = b.waiting; active = b.active; finished = b.finished; freezes = f; clock = b.clock; mark = b.mark; given = b.given }) (sym (at_itself (the_unit u) b.freezes))
     go false = frozen_view m u 1 h r v ∙ ap (λ x. with_freeze (the_unit u) x b) (sym (ap one_freeze (freeze_on m r (the_unit u) h) ∙ freeze_back (freeze_at m u)))
+
+-- ---- a unit by its number
+
+known_none : (u : Unit) (why : NoSuchUnit) → known u ≡ Err why → 64 ≤ u.0
+known_none u why = go (u.0 <? 64) refl
+  where
+    go : (c : Bool) → (u.0 <? 64) ≡ c → if◌then◌else◌ {A = Result ℕ NoSuchUnit} c (Ok u.0) (Err (record {})) ≡ Err why → 64 ≤ u.0
+    go true z e = let k : ◌≡◌ {A = ℕ} 0 1 = cc in absurd (omega arith)
+    go false z e = not_below z
+
+known_one : (u : Unit) (n : ℕ) → known u ≡ Ok n → (u.0 ≡ n) × (u.0 < 64)
+known_one u n = go (u.0 <? 64) refl
+  where
+    go : (c : Bool) → (u.0 <? 64) ≡ c → if◌then◌else◌ {A = Result ℕ NoSuchUnit} c (Ok u.0) (Err (record {})) ≡ Ok n → (u.0 ≡ n) × (u.0 < 64)
+    go true z e = (cc, below z)
+    go false z e = let k : ◌≡◌ {A = ℕ} 0 1 = cc in absurd (omega arith)
+
+pub unit_refused : (m : List ℕ) (u : Unit) (x : ℕ) (why : NoSuchUnit) (r : Result Bool NoSuchUnit) → known u ≡ Err why → IsErr r → FreezeSet m m u.0 x r
+unit_refused m u x why (Ok b) e i = true≢false (sym i)
+unit_refused m u x why (Err w) e i = no_such_unit (known_none u why e) refl
+
+pub unit_set : (m : List ℕ) (u : Unit) (x n : ℕ) → known u ≡ Ok n → FreezeSet m (set m (262 + n) x) u.0 x (Ok (not (freeze_at m n =? 0)))
+unit_set m u x n e = let k = known_one u n e in rw (← k.0) (freeze_set k.1 refl)
 
 -- ---- the calls
 

@@ -1,5 +1,6 @@
 -- Which addresses are held and how many places are live, on the words: the plane of addresses is the board's check 9, the free row its
 -- check 11. Assumes nothing.
+use Rattle.std.specs.Prelude.{None, Some}
 use Rattle.std.proofs.Common.{◌≡◌, ℕ, zero, suc, ◌+◌, ◌-◌, ◌<◌, ◌≤◌, Bool, true, false, not, ◌&&◌, ◌||◌, eqb, ◌≢◌, ◌⊎◌, List, [], ◌∷◌, ◌++◌, map, length, sym, refl, ap, ◌∙◌, subst, inl, inr, arith, length-append, eq-eqb, ne_eqb, eqb-true}
 use native.Mathlib.Decide.{ℕ_discrete}
 use mathlib.Core.Logic.{by_cases}
@@ -11,13 +12,14 @@ use Rattle.board.specs.Plain.{◌=?◌, any}
 use Rattle.board.specs.Board.{the_unit, units, of_units, places, live}
 use Rattle.board.specs.TakingIn.{address_held}
 use Rattle.board.proofs.Choose.{true≢false, both, not-true}
-use Rattle.rows.specs.Words.{next, owner, head}
+use Rattle.rows.specs.Words.{next, owner, head, as_place}
 use Rattle.rows.specs.Rows.{Run, total, row_of}
-use Rattle.rows.proofs.Shown.{run_of, row_none, row_some}
+use Rattle.rows.proofs.Shown.{run_of}
 use Rattle.rows.proofs.Everywhere.{everywhere}
 use Rattle.desk.specs.Words.{address_at}
 use Rattle.desk.specs.View.{request_at, active_at, finished_at, Rest, view, Valid}
 use Rattle.desk.specs.TakingIn.{held_to}
+use Rattle.desk.proofs.Sought.{row_first, row_empty}
 use Rattle.desk.proofs.Views.{waiting_on}
 
 -- ---- tests that are the same, or pass on either side
@@ -238,11 +240,21 @@ module _ (m : List ℕ) (r : Rest) (v : Valid m r) where
       )
 
   -- the free row is empty: all 32 places are live
-  pub none_free : 32 ≤ head m 0 → places ≤ length (live (view m r))
+  pub none_free : as_place (head m 0) ≡ None → places ≤ length (live (view m r))
   unfolding places
-  none_free h = let e = ap (length {A = ℕ}) (row_none m v.rows 0 (omega arith) h) in omega (arith, live_count)
+  none_free h = let e = ap (length {A = ℕ}) (row_empty m v.rows 0 (omega arith) h) in omega (arith, live_count)
 
   -- it has a place: not all are
-  pub one_free : head m 0 < 32 → length (live (view m r)) < places
+  pub one_free : (p : ℕ) → as_place (head m 0) ≡ Some p → length (live (view m r)) < places
   unfolding places
-  one_free h = let e = ap (length {A = ℕ}) (row_some m v.rows 0 (omega arith) h).1 in omega (arith, live_count)
+  one_free p h = let e = ap (length {A = ℕ}) (row_first m v.rows 0 p (omega arith) h).1 in omega (arith, live_count)
+
+-- ---- the look along the addresses, a place at a time
+
+pub held_none : (m : List ℕ) (a : ℕ) → held_to 0 m a ≡ false
+unfolding held_to
+held_none m a = refl
+
+pub held_next : (n : ℕ) (m : List ℕ) (a : ℕ) → held_to (n + 1) m a ≡ (held_to n m a || (eqb (address_at m n) a && not (eqb (owner m n) 0)))
+unfolding held_to
+held_next n m a = let e : n + 1 ≡ suc n = omega arith in ap (λ k. held_to k m a) e

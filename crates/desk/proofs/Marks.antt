@@ -1,4 +1,5 @@
 -- One more mark on an active request: the host asked for its abort. Assumes nothing.
+use Rattle.std.specs.Prelude.{Option}
 use Rattle.std.proofs.Common.{◌≡◌, ℕ, ◌+◌, ◌<◌, not, ◌≢◌, List, [], ◌∷◌, ◌++◌, map, length, get_or, sym, refl, ap, ◌∙◌, subst, arith, get_or-set_same}
 use mathlib.Core.Bool.{or-true, or-false}
 use Rattle.board.specs.declared.Ticket.{Ticket}
@@ -79,7 +80,7 @@ own_row : (m : List ℕ) (k h p : ℕ) (a b : List ℕ) → Run m k h (a ++ (p �
 own_row m k h p [] b r = (r.1, r.2)
 own_row m k h p (x ∷ a) b r = own_row m k (next m x) p a b r.4
 
-module _ (m : List ℕ) (r : Rest) (t : Ticket) (q p : ℕ) (s : Sought m 2 t q p) (v : Valid m r) where
+module _ (m : List ℕ) (r : Rest) (t : Ticket) (q : Option ℕ) (p : ℕ) (s : Sought m 2 t q p) (v : Valid m r) where
   run : Run m 2 (head m 2) (s.a ++ (p ∷ s.b))
   run = subst (Run m 2 (head m 2)) s.parted (run_of m v.rows 2 (omega arith))
 

@@ -5,6 +5,7 @@ use Rattle.board.specs.declared.Told.{Told}
 use Rattle.board.specs.Plain.{◌=?◌}
 use Rattle.board.specs.Block.{word, signed}
 use lib.Signed.{mag}
+use mir.Val.{bool_byte}
 use Rattle.board.proofs.Written.{written as written_laws}
 use Rattle.rows.specs.Words.{ticket_at}
 use Rattle.rows.proofs.Links.{off}
@@ -227,3 +228,8 @@ module _ (m : List ℕ) (p : ℕ) (q : Request) (hp : p < 32) where
         bit_back q.wanted,
         bit_back q.autosense,
       )
+
+-- a truth value by the library's conversion
+pub bit_from : (c : Bool) → bool_byte c ≡ bit c
+bit_from true = refl
+bit_from false = refl

@@ -1,6 +1,6 @@
 -- An event on a ticket, on the words. Assumes nothing.
 use Rattle.std.proofs.Common.{◌≡◌, ℕ, Bool, not, ◌||◌, List, [], ◌++◌, map, sym, refl, ap, ◌∙◌, subst, arith}
-use Rattle.std.specs.Prelude.{Some, None, Result, Ok, Err, IsErrAnd}
+use Rattle.std.specs.Prelude.{Option, Some, None, Result, Ok, Err, IsErrAnd}
 use Rattle.board.specs.declared.Ticket.{Ticket}
 use Rattle.board.specs.declared.Event.{Event}
 use Rattle.board.specs.declared.End.{End}
@@ -16,9 +16,8 @@ use Rattle.board.specs.Calls.{event, step}
 use Rattle.ends.specs.declared.Closed.{Closed}
 use Rattle.ends.specs.Closing.{bad, closed}
 use Rattle.ends.proofs.Laws.{capped_same, frozen_after}
-use Rattle.rows.specs.Words.{head, the_place, seek_from}
 use Rattle.rows.specs.Rows.{row_of, SoundRows}
-use Rattle.rows.specs.declared.Spot.TheVariants.{At, Nowhere}
+use Rattle.rows.specs.Searches.{spot, spot_of}
 use Rattle.rows.proofs.Carry.{same_rows}
 use Rattle.desk.specs.Words.{freeze_at, unit_at, ToldFits, finished_words, frozen_if}
 use Rattle.desk.specs.View.{request_at, active_at, Rest, view, Valid}
@@ -32,17 +31,17 @@ use Rattle.desk.proofs.Finishes.{finished_carried, finished_active}
 
 -- ---- the ticket isn't active
 
-pub active_none : (m : List ℕ) (r : Rest) (t : Ticket) → seek_from 32 m t.0 32 (head m 2) ≡ Nowhere → Valid m r → find ticket_of_active t (view m r).active ≡ None
+pub active_none : (m : List ℕ) (r : Rest) (t : Ticket) → spot_of m 2 t.0 ≡ None → Valid m r → find ticket_of_active t (view m r).active ≡ None
 unfolding view
-active_none m r t e v = find_none ticket_of_active m (active_at m) (λ x. refl) t (row_of m 2) (not_sought m 2 t e v.rows (omega arith))
+active_none m r t e v = find_none ticket_of_active m (active_at m) (λ x. refl) t (row_of m 2) (not_sought m 2 t e)
 
-pub report_none : (m : List ℕ) (r : Rest) (t : Ticket) (e : Event) (moved : ℕ) → seek_from 32 m t.0 32 (head m 2) ≡ Nowhere → Does m m r r (event t e moved) (refused 101) []
+pub report_none : (m : List ℕ) (r : Rest) (t : Ticket) (e : Event) (moved : ℕ) → spot_of m 2 t.0 ≡ None → Does m m r r (event t e moved) (refused 101) []
 unfolding step reporting reported
 report_none m r t e moved z = unchanged (refused 101) [] (λ v. ap (reported (view m r) e moved) (active_none m r t z v))
 
 -- ---- it stands at place p of the active row
 
-module _ (m : List ℕ) (r : Rest) (t : Ticket) (q p : ℕ) (s : Sought m 2 t q p) (v : SoundRows m) where
+module _ (m : List ℕ) (r : Rest) (t : Ticket) (q : Option ℕ) (p : ℕ) (s : Sought m 2 t q p) (v : SoundRows m) where
   pub found_active : find ticket_of_active t (view m r).active ≡ Some (active_at m p)
   unfolding view
   found_active = ap (λ l. find ticket_of_active t (map (active_at m) l)) s.parted ∙ find_parted ticket_of_active m (active_at m) (λ x. refl) t s.a s.b p s.before s.ticket
@@ -108,12 +107,12 @@ ended_back (Ok e) frozen x b z =
     record { end = e; same = refl; tells = sym (ap (λ (c : Closed). c.told) same); freezes = sym (ap (λ (c : Closed). c.bad) same) }
 
 -- an event that can't be, as the caller is told of it
-pub told_implausible : (m : List ℕ) (q p : ℕ) (why : Implausible) (c : Result Unit Unreported) → IsErrAnd c (λ w. w ≡ unreported.Implausible) → Reported m m q p (Err why) c
+pub told_implausible : (m : List ℕ) (q : Option ℕ) (p : ℕ) (why : Implausible) (c : Result Unit Unreported) → IsErrAnd c (λ w. w ≡ unreported.Implausible) → Reported m m q p (Err why) c
 told_implausible m q p why (Ok x) e = absurd e
 told_implausible m q p why (Err w) e = subst (λ z. Reported m m q p (Err why) (Err z)) (sym e) (refused_event refl)
 
-pub report_some : (m m' : List ℕ) (r : Rest) (t : Ticket) (q p : ℕ) (e : Event) (moved : ℕ) (c : Result Unit Unreported)
-    → seek_from 32 m t.0 32 (head m 2) ≡ At (the_place q) (the_place p) → Reported m m' q p (closing_of m p e moved) c → Does m m' r r (event t e moved) (reporting_says c) []
+pub report_some : (m m' : List ℕ) (r : Rest) (t : Ticket) (q : Option ℕ) (p : ℕ) (e : Event) (moved : ℕ) (c : Result Unit Unreported)
+    → spot_of m 2 t.0 ≡ Some (spot q p) → Reported m m' q p (closing_of m p e moved) c → Does m m' r r (event t e moved) (reporting_says c) []
 unfolding closing_of reported_by ended_board
 report_some m m' r t q p e moved c at k =
     go _ c (ap (λ a. closed (ending a e moved) frozen) (sym (capped_same (active_at m p) (omega arith)))) k
@@ -124,7 +123,7 @@ report_some m m' r t q p e moved c at k =
     ends : (x : End) (y : Told) (d : Bool) → ending (active_at m p) e moved ≡ Ok x → y ≡ told x (frozen || bad x.base) → d ≡ bad x.base → ToldFits y → (v : Valid m r)
         → Leaves (frozen_if (finished_words m 2 q p y) (unit_at m p) d) r done [] (step (view m r) (event t e moved))
     ends x y d z tells freezes f v =
-        let s = sought m 2 t q p at v.rows (omega arith) in
+        let s = sought m 2 t q p at in
         let n = finished_words m 2 q p y in
         subst (Leaves (frozen_if n (unit_at m p) d) r done []) (sym (step_found m r t q p s v.rows e moved (Ok x) z))
         (record {
@@ -137,7 +136,7 @@ report_some m m' r t q p e moved c at k =
     go : (w : Result Closed Implausible) (c : Result Unit Unreported) → closed (ending (active_at m p) e moved) frozen ≡ w → Reported m m' q p w c → Does m m' r r (event t e moved) (reporting_says c) []
     go w c z (refused_event h) =
         subst (λ n. Does m n r r (event t e moved) (refused 102) []) (sym h)
-        (unchanged (refused 102) [] (λ v. step_found m r t q p (sought m 2 t q p at v.rows (omega arith)) v.rows e moved (Err (record {})) (refused_back (ending (active_at m p) e moved) frozen z)))
+        (unchanged (refused 102) [] (λ v. step_found m r t q p (sought m 2 t q p at) v.rows e moved (Err (record {})) (refused_back (ending (active_at m p) e moved) frozen z)))
     go w c z (ended_event x d h f) =
         let back = ended_back (ending (active_at m p) e moved) frozen x d z in
         subst (λ n. Does m n r r (event t e moved) done []) (sym h)

@@ -1,6 +1,7 @@
 -- Sending, on the words. Assumes nothing.
-use Rattle.std.specs.Prelude.{Option, Some, None, if◌then◌else◌}
-use Rattle.std.proofs.Common.{◌≡◌, ℕ, ◌+◌, ◌<◌, ◌≤◌, Bool, true, false, not, ◌&&◌, eqb, leb, ◌≢◌, List, [], ◌∷◌, ◌++◌, map, length, sym, refl, ap, ◌∙◌, subst, arith, leb-false}
+use Rattle.std.specs.Prelude.{Option, Some, None, is_some, if◌then◌else◌}
+use Rattle.std.proofs.Common.{◌≡◌, ℕ, ◌+◌, ◌<◌, ◌≤◌, Bool, true, false, not, ◌&&◌, cond, eqb, ltb, ◌≢◌, List, [], ◌∷◌, ◌++◌, map, length, sym, refl, ap, ◌∙◌, subst, arith}
+use borrow.Author.Tests.{ltb-true}
 use lib.ListN.{length-map}
 use Rattle.board.specs.declared.Unit.{Unit}
 use Rattle.board.specs.declared.Request.{Request}
@@ -9,13 +10,13 @@ use Rattle.board.specs.Board.{units, most_active, Board}
 use Rattle.board.specs.Answers.{sent, nothing, Stepped, says}
 use Rattle.board.specs.Sending.{eligible, found, rotation, sent_from, sent_first, sent_by, sending}
 use Rattle.board.specs.Calls.{send, step}
-use Rattle.board.proofs.Choose.{both, not-true, when_at_most, unless_at_most}
+use Rattle.board.proofs.Choose.{both, true≢false, when_at_most, unless_at_most}
 use Rattle.board.proofs.Moves.{FoundAble, found_able}
-use Rattle.rows.specs.Words.{head, popped, length_from}
+use Rattle.rows.specs.Words.{head, as_place, popped}
 use Rattle.rows.specs.Rows.{row_of}
-use Rattle.rows.proofs.Shown.{row_some, length_row}
+use Rattle.rows.proofs.Shown.{row_some}
 use Rattle.rows.proofs.Carry.{Out, first_out, Carried, carry, read_left, read_same, read_joined}
-use Rattle.desk.specs.Words.{freeze_at, busy_from, can_send, started, launched}
+use Rattle.desk.specs.Words.{freeze_at, has_active, can_send, started, launched}
 use Rattle.desk.specs.View.{request_at, active_at, finished_at, Rest, the_rest, view, Valid}
 use Rattle.desk.specs.Promise.{Does, Sends}
 use Rattle.desk.proofs.Read.{SamePlace, same_request_at, kept_place, same_active_at, stores_links, stores_other, stores_low, started_active}
@@ -24,9 +25,9 @@ use Rattle.desk.proofs.Eligible.{rotation_same, eligible_words}
 
 -- ---- how many are active
 
-active_length : (m : List ℕ) (r : Rest) → Valid m r → length (view m r).active ≡ length_from 32 m (head m 2)
+active_length : (m : List ℕ) (r : Rest) → length (view m r).active ≡ length (row_of m 2)
 unfolding view
-active_length m r v = length-map (row_of m 2) (active_at m) ∙ sym (length_row m v.rows 2 (omega arith))
+active_length m r = length-map (row_of m 2) (active_at m)
 
 eight : most_active ≡ 8
 unfolding most_active
@@ -36,25 +37,25 @@ eight = refl
 abbrev by : Board → Bool → Stepped
 by b t = if t then says b (nothing 0) else sent_by b (rotation (eligible b) b.mark units 1)
 
-step_full : (m : List ℕ) (r : Rest) → 8 ≤ length_from 32 m (head m 2) → Valid m r → step (view m r) send ≡ says (view m r) (nothing 0)
+step_full : (m : List ℕ) (r : Rest) → 8 ≤ length (row_of m 2) → Valid m r → step (view m r) send ≡ says (view m r) (nothing 0)
 unfolding step sending
-step_full m r h v = ap (by (view m r)) (when_at_most {m = most_active} {n = length (view m r).active} (let e = active_length m r v in let d = eight in omega arith))
+step_full m r h v = ap (by (view m r)) (when_at_most {m = most_active} {n = length (view m r).active} (let e = active_length m r in let d = eight in omega arith))
 
 -- what the rotation finds on the words, it finds on the board
-step_by : (m : List ℕ) (r : Rest) → length_from 32 m (head m 2) < 8 → (s : Option Found) → rotation (can_send m) r.mark 64 1 ≡ s → Valid m r → step (view m r) send ≡ sent_by (view m r) s
+step_by : (m : List ℕ) (r : Rest) → length (row_of m 2) < 8 → (s : Option Found) → rotation (can_send m) r.mark 64 1 ≡ s → Valid m r → step (view m r) send ≡ sent_by (view m r) s
 unfolding step sending view
 step_by m r h s e v =
-    ap (by (view m r)) (unless_at_most {m = most_active} {n = length (view m r).active} (let l = active_length m r v in let d = eight in omega arith))
+    ap (by (view m r)) (unless_at_most {m = most_active} {n = length (view m r).active} (let l = active_length m r in let d = eight in omega arith))
     ∙ ap (sent_by (view m r)) (rotation_same (eligible (view m r)) (can_send m) r.mark 64 1 (eligible_words m r v) ∙ e)
 
-pub send_full : (m : List ℕ) (r : Rest) → 8 ≤ length_from 32 m (head m 2) → Does m m r r send (nothing 0) []
+pub send_full : (m : List ℕ) (r : Rest) → 8 ≤ length (row_of m 2) → Does m m r r send (nothing 0) []
 send_full m r h =
     does (λ v. v.rows) (λ v. sym (ap (λ s. s.board) (step_full m r h v))) (λ v. sym (ap (λ s. s.answer) (step_full m r h v))) (λ v. sym (ap (λ s. s.lent) (step_full m r h v))) (λ n e. refl)
 
-pub full_sends : (m : List ℕ) (clock : ℕ) (mark : Unit) → 8 ≤ length_from 32 m (head m 2) → Sends m m clock mark mark (nothing 0)
+pub full_sends : (m : List ℕ) (clock : ℕ) (mark : Unit) → 8 ≤ length (row_of m 2) → Sends m m clock mark mark (nothing 0)
 full_sends m clock mark h = record { does = λ given. send_full m (the_rest clock mark given) h; idle = λ n e. refl }
 
-pub send_none : (m : List ℕ) (r : Rest) → length_from 32 m (head m 2) < 8 → rotation (can_send m) r.mark 64 1 ≡ None → Does m m r r send (nothing 64) []
+pub send_none : (m : List ℕ) (r : Rest) → length (row_of m 2) < 8 → rotation (can_send m) r.mark 64 1 ≡ None → Does m m r r send (nothing 64) []
 unfolding sent_by
 send_none m r h e =
     does (λ v. v.rows) (λ v. sym (ap (λ s. s.board) (step_by m r h None e v))) (λ v. sym (ap (λ s. s.answer) (step_by m r h None e v))) (λ v. sym (ap (λ s. s.lent) (step_by m r h None e v))) (λ n e. refl)
@@ -66,9 +67,15 @@ pub found_unit : (m : List ℕ) (mark u : Unit) (n : ℕ) → rotation (can_send
 unfolding can_send
 found_unit m mark u n e =
     let f : (u.0 < 64) × (can_send m u ≡ true) = subst (FoundAble (can_send m)) e (found_able (can_send m) mark 64 1) in
-    let a = (both (not (leb 32 (head m (3 + u.0))) && eqb (freeze_at m u.0) 0) (not (busy_from 32 m u.0 (head m 2))) f.1).0 in
-    let b = (both (not (leb 32 (head m (3 + u.0)))) (eqb (freeze_at m u.0) 0) a).0 in
-    (f.0, leb-false 32 (head m (3 + u.0)) (not-true (leb 32 (head m (3 + u.0))) b))
+    let a = (both (is_some (as_place (head m (3 + u.0))) && eqb (freeze_at m u.0) 0) (not (has_active m u.0)) f.1).0 in
+    (f.0, named (head m (3 + u.0)) (both (is_some (as_place (head m (3 + u.0)))) (eqb (freeze_at m u.0) 0) a).0)
+  where
+    named : (n : ℕ) → is_some (as_place n) ≡ true → n < 32
+    named n e = go (ltb n 32) refl e
+      where
+        go : (c : Bool) → ltb n 32 ≡ c → is_some (cond c (Some n) None) ≡ true → n < 32
+        go true z e = ltb-true n 32 z
+        go false z e = true≢false (sym e)
 
 module _ (m : List ℕ) (r : Rest) (u : Unit) (hu : u.0 < 64) (hp : head m (3 + u.0) < 32) (v : Valid m r) where
   abbrev k : ℕ
@@ -126,12 +133,12 @@ module _ (m : List ℕ) (r : Rest) (u : Unit) (hu : u.0 < 64) (hp : head m (3 + 
   first_waiting : (view m r).waiting u ≡ request_at m p ∷ map (request_at m) more
   first_waiting = waiting_on m r u hu ∙ ap (map (request_at m)) (row_some m v.rows k (omega arith) hp).1
 
-  step_some : (n : ℕ) → length_from 32 m (head m 2) < 8 → rotation (can_send m) r.mark 64 1 ≡ Some (found u n)
+  step_some : (n : ℕ) → length (row_of m 2) < 8 → rotation (can_send m) r.mark 64 1 ≡ Some (found u n)
       → step (view m r) send ≡ says (sent_from u (request_at m p) (map (request_at m) more) (view m r)) (sent (request_at m p).ticket u (request_at m p).cdb n)
   unfolding sent_by sent_first
   step_some n h e = step_by m r h (Some (found u n)) e v ∙ ap (sent_first (view m r) u n) first_waiting
 
-pub send_some : (m : List ℕ) (r : Rest) (u : Unit) (n : ℕ) → length_from 32 m (head m 2) < 8 → rotation (can_send m) r.mark 64 1 ≡ Some (found u n)
+pub send_some : (m : List ℕ) (r : Rest) (u : Unit) (n : ℕ) → length (row_of m 2) < 8 → rotation (can_send m) r.mark 64 1 ≡ Some (found u n)
     → let q = request_at m (head m (3 + u.0)) in
     Does m (launched m u.0 r.clock) r (the_rest r.clock u r.given) send (sent q.ticket u q.cdb n) []
 send_some m r u n h e =

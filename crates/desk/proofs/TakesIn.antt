@@ -1,5 +1,5 @@
 -- Taking a request in, on the words: the checks on the block, those on the board, a request that passes. Assumes nothing.
-use Rattle.std.specs.Prelude.{Result, Ok, Err, IsErrAnd, if◌then◌else◌}
+use Rattle.std.specs.Prelude.{Option, None, Some, ok_or, Result, Ok, Err, IsErrAnd, if◌then◌else◌}
 use Rattle.std.proofs.Common.{◌≡◌, ℕ, suc, ◌+◌, ◌*◌, ◌<◌, ◌≤◌, Bool, true, false, ◌≢◌, List, [], ◌∷◌, ◌++◌, map, length, set, sym, refl, ap, ◌∙◌, subst, arith, length-set}
 use Rattle.board.specs.declared.Ticket.{Ticket}
 use Rattle.board.specs.declared.Unit.{Unit}
@@ -9,20 +9,22 @@ use Rattle.board.specs.Board.{the_ticket, units, places, last_ticket, Board, liv
 use Rattle.board.specs.Block.{byte, fields, request, with_status}
 use Rattle.board.specs.Answers.{refused, taken, number, taking_in_says}
 use Rattle.board.specs.declared.Refusal.{Refusal}
+use Rattle.board.specs.declared.Refusal.TheVariants as refusal
 use Rattle.board.specs.TakingIn.{Verdict, refuse, accept, address_held, checks_of_block, checks_of_board, verdict, joined, judged, taking_in}
 use Rattle.board.specs.Calls.{take_in, step}
 use Rattle.board.proofs.Choose.{neither, not_below, when_at_most, unless_at_most}
 use Rattle.block.specs.Checked.{outcome, outcome_of, examined, passed}
 use Rattle.block.specs.Checked as checked
-use Rattle.rows.specs.Words.{head, popped}
+use Rattle.rows.specs.Words.{head, as_place, popped}
 use Rattle.rows.specs.Rows.{row_of}
 use Rattle.rows.proofs.Links.{off}
-use Rattle.rows.proofs.Shown.{row_some}
+use Rattle.rows.proofs.Shown.{first_some}
 use Rattle.rows.proofs.Carry.{Out, first_out, joins, put_in, Carried, carry, read_same, read_joined}
 use Rattle.desk.specs.Words.{freeze_at, written}
 use Rattle.desk.specs.View.{request_at, active_at, finished_at, Rest, the_rest, view, Valid}
 use Rattle.desk.specs.Promise.{Does, TakesIn}
 use Rattle.desk.specs.TakingIn.{held_to, entered, status_said}
+use Rattle.desk.proofs.Sought.{row_first}
 use Rattle.desk.proofs.Read.{SamePlace, RequestFits, same_request_at, kept_place, stores_low, written_links, written_other, written_request}
 use Rattle.desk.proofs.Views.{board_same, does, waiting_on, waiting_changed, same_freezes, request_others, active_others, finished_others}
 use Rattle.desk.proofs.Held.{held_live, none_free, one_free}
@@ -164,14 +166,18 @@ refuses m s given n e = record {
 }
 
 -- checks 1 to 8: one of them applies
-pub block_refuses : (m : List ℕ) (t : Ticket) (s : List ℕ) (given n : ℕ) → examined t s ≡ checked.refused n → TakesIn m m s (with_status n s) given given (refused n)
+block_refuses : (m : List ℕ) (t : Ticket) (s : List ℕ) (given n : ℕ) → examined t s ≡ checked.refused n → TakesIn m m s (with_status n s) given given (refused n)
 block_refuses m t s given n e = refuses m s given n (λ clock mark v. block_verdict (view m (the_rest clock mark given)) t s n e)
 
 -- as the caller is told of it
+told : (m s : List ℕ) (given : ℕ) (why : Refusal) (r : Result Ticket Refusal) → IsErrAnd r (λ w. w ≡ why) → TakesIn m m s (with_status (number why) s) given given (refused (number why))
+    → TakesIn m m s (with_status (status_said r) s) given given (taking_in_says r)
+told m s given why (Ok x) i h = absurd i
+told m s given why (Err w) i h = subst (λ z. TakesIn m m s (with_status (number z) s) given given (refused (number z))) (sym i) h
+
 pub told_refused : (m : List ℕ) (t : Ticket) (s : List ℕ) (given : ℕ) (why : Refusal) (r : Result Ticket Refusal) → examined t s ≡ checked.refused (number why) → IsErrAnd r (λ w. w ≡ why)
     → TakesIn m m s (with_status (status_said r) s) given given (taking_in_says r)
-told_refused m t s given why (Ok x) e i = absurd i
-told_refused m t s given why (Err w) e i = subst (λ z. TakesIn m m s (with_status (number z) s) given given (refused (number z))) (sym i) (block_refuses m t s given (number why) e)
+told_refused m t s given why r e i = told m s given why r i (block_refuses m t s given (number why) e)
 
 module _ (m : List ℕ) (t : Ticket) (s : List ℕ) (q : Request) (front : Bool) (given : ℕ) (p : Passes t s q front) where
   -- the checks on the board, as the words tell their tests
@@ -188,14 +194,23 @@ module _ (m : List ℕ) (t : Ticket) (s : List ℕ) (q : Request) (front : Bool)
   ticket_refuses h l = refuses m s given 0x05 (λ clock mark v. words_verdict false true _ (the_rest clock mark given) v h (when_at_most l) refl)
 
   -- check 11 applies
-  pub places_refuse : held_to 32 m q.address ≡ false → given < last_ticket → 32 ≤ head m 0 → TakesIn m m s (with_status 0x05 s) given given (refused 0x05)
+  places_refuse : held_to 32 m q.address ≡ false → given < last_ticket → as_place (head m 0) ≡ None → TakesIn m m s (with_status 0x05 s) given given (refused 0x05)
   places_refuse h l f =
       refuses m s given 0x05
       (λ clock mark v. words_verdict false false true (the_rest clock mark given) v h (unless_at_most l) (when_at_most (none_free m (the_rest clock mark given) v f)))
 
+  -- as the caller is told of it
+  pub places_told : held_to 32 m q.address ≡ false → given < last_ticket → (f : Result ℕ Refusal) (why : Refusal) (r : Result Ticket Refusal)
+      → f ≡ ok_or (as_place (head m 0)) refusal.CamBusy → f ≡ Err why → IsErrAnd r (λ w. w ≡ why) → TakesIn m m s (with_status (status_said r) s) given given (taking_in_says r)
+  places_told h l f why r n e i = go (as_place (head m 0)) refl (sym n ∙ e)
+    where
+      go : (o : Option ℕ) → as_place (head m 0) ≡ o → ok_or o refusal.CamBusy ≡ Err why → TakesIn m m s (with_status (status_said r) s) given given (taking_in_says r)
+      go None z k = let y : refusal.CamBusy ≡ why = cc in told m s given why r i (subst (λ w. TakesIn m m s (with_status (number w) s) given given (refused (number w))) y (places_refuse h l z))
+      go (Some x) z k = let y : ◌≡◌ {A = ℕ} 0 1 = cc in absurd (omega arith)
+
   -- none of them applies
-  accepts : (r : Rest) → Valid m r → held_to 32 m q.address ≡ false → r.given < last_ticket → head m 0 < 32 → verdict (view m r) s ≡ accept
-  accepts r v h l f = words_verdict false false false r v h (unless_at_most l) (unless_at_most (one_free m r v f))
+  accepts : (r : Rest) (i : ℕ) → Valid m r → held_to 32 m q.address ≡ false → r.given < last_ticket → as_place (head m 0) ≡ Some i → verdict (view m r) s ≡ accept
+  accepts r i v h l f = words_verdict false false false r v h (unless_at_most l) (unless_at_most (one_free m r v i f))
 
 -- ---- a request is taken in
 
@@ -218,33 +233,33 @@ written_freezes m p q u hp hu =
     stores_low (set w₁ (230 + p) q.address) p 0 _ (262 + u) (omega arith)
     ∙ (off w₁ (230 + p) (262 + u) q.address (omega arith) ∙ off m (198 + p) (262 + u) q.ticket.0 (omega arith))
 
-module _ (m : List ℕ) (r : Rest) (q : Request) (front : Bool) (fits : RequestFits q) (hp : head m 0 < 32) (v : Valid m r) where
-  -- the place, the row, and the words on the way
-  abbrev p : ℕ
-  p = head m 0
+module _ (m : List ℕ) (r : Rest) (q : Request) (front : Bool) (fits : RequestFits q) (p : ℕ) (free : as_place (head m 0) ≡ Some p) (v : Valid m r) where
+  hp : p < 32
+  hp = (first_some m 0 p free).1
 
+  -- the row, and the words on the way
   abbrev k : ℕ
   k = 3 + q.unit.0
 
   abbrev m₁ : List ℕ
-  m₁ = popped m 0 (head m 0)
+  m₁ = popped m 0 p
 
   abbrev m₂ : List ℕ
   m₂ = written m₁ p q
 
   abbrev m' : List ℕ
-  m' = entered m (head m 0) q front
+  m' = entered m p q front
 
   -- the free places behind it
   abbrev more : List ℕ
-  more = (row_some m v.rows 0 (omega arith) hp).0
+  more = (row_first m v.rows 0 p (omega arith) free).0
 
   abbrev hk : k < 67
   hk = omega (arith, fits.unit)
 
   -- taken from the free row
   out : Out m m₁ 0 p more
-  out = first_out m 0 p more v.rows (omega arith) (row_some m v.rows 0 (omega arith) hp).1
+  out = first_out m 0 p more v.rows (omega arith) (row_first m v.rows 0 p (omega arith) free).1
 
   -- and put into the row of its unit
   carried : Carried m m₂ m' 0 k p front more
@@ -289,17 +304,17 @@ step_taken b t s q front p n e = ap (judged b s) e ∙ rw (p.asks, p.at_front, n
 
 -- taking in, where every check was passed
 pub taken_in : (m : List ℕ) (t : Ticket) (s : List ℕ) (q : Request) (front : Bool) (given : ℕ) → Passes t s q front → RequestFits q
-    → held_to 32 m q.address ≡ false → given < last_ticket → head m 0 < 32 → t.0 ≡ suc given
-    → TakesIn m (entered m (head m 0) q front) s (with_status 0x00 s) given t.0 (taken t)
+    → held_to 32 m q.address ≡ false → given < last_ticket → (i : ℕ) → as_place (head m 0) ≡ Some i → t.0 ≡ suc given
+    → TakesIn m (entered m i q front) s (with_status 0x00 s) given t.0 (taken t)
 unfolding view request
-taken_in m t s q front given p fits h l f n = record {
+taken_in m t s q front given p fits h l i f n = record {
   does = λ clock mark.
       let r = the_rest clock mark given in
       let stepped : Valid m r → step (view m r) (take_in s) ≡ record { board = joined q front (view m r); answer = taken t; lent = with_status 0x00 s } =
-      λ v. step_taken (view m r) t s q front p (ap the_ticket n) (accepts m t s q front given p r v h l f) in
+      λ v. step_taken (view m r) t s q front p (ap the_ticket n) (accepts m t s q front given p r i v h l f) in
       does
-      (λ v. (carried m r q front fits f v).sound)
-      (λ v. entered_view m r q front fits f v t.0 (ap (λ z. z.ticket.0) p.asks) ∙ sym (ap (λ z. z.board) (stepped v)))
+      (λ v. (carried m r q front fits i f v).sound)
+      (λ v. entered_view m r q front fits i f v t.0 (ap (λ z. z.ticket.0) p.asks) ∙ sym (ap (λ z. z.board) (stepped v)))
       (λ v. sym (ap (λ z. z.answer) (stepped v)))
       (λ v. sym (ap (λ z. z.lent) (stepped v)))
       (λ k z. let y : ◌≡◌ {A = ℕ} 0 1 = cc in absurd (omega arith));

@@ -1,40 +1,26 @@
 -- A tick, on the words. Assumes nothing.
-use Rattle.std.specs.Prelude.{if◌then◌else◌}
-use Rattle.std.proofs.Common.{◌≡◌, ℕ, zero, suc, ◌+◌, ◌-◌, ◌%◌, ◌^◌, ◌<◌, ◌≤◌, Bool, true, false, not, ◌||◌, ◌≢◌, List, [], ◌∷◌, map, length, get_or, set, sym, refl, ap, ◌∙◌, arith, get_or-set_same, le-leb}
+use Rattle.std.specs.Prelude.{Option, Some, None, if◌then◌else◌}
+use Rattle.std.proofs.Common.{◌≡◌, ℕ, zero, suc, ◌+◌, ◌-◌, ◌%◌, ◌^◌, ◌<◌, Bool, true, false, not, ◌||◌, ◌≢◌, List, [], ◌∷◌, map, length, get_or, set, sym, refl, ap, ◌∙◌, arith, get_or-set_same, cond, ltb}
 use mathlib.Core.Bool.{or-true, or-false}
 use mathlib.Core.List.{map-map}
-use borrow.Author.Tests.{lt-leb}
+use borrow.Author.Tests.{ltb-true, ltb-false}
 use Rattle.board.specs.Plain.{◌=?◌}
 use Rattle.board.specs.Board.{with_active, with_clock}
 use Rattle.board.specs.Answers.{time}
 use Rattle.board.specs.Calls.{late, time_passed, ticking, tick, step}
 use Rattle.board.proofs.Choose.{if_ind}
-use Rattle.rows.specs.Words.{next, owner, head}
-use Rattle.rows.specs.Rows.{NotIn, Run, row_of, SoundRows}
+use Rattle.rows.specs.Words.{next, owner, head, as_place}
+use Rattle.rows.specs.Rows.{NotIn, Run, walk, row_of, SoundRows}
 use Rattle.rows.proofs.Links.{off}
-use Rattle.rows.proofs.Shown.{run_of, row_short, map_run}
+use Rattle.rows.proofs.Walks.{walk_end, walk_more}
+use Rattle.rows.proofs.Shown.{run_of, map_run}
 use Rattle.rows.proofs.Carry.{SameLinks, same_links, set_links, same_rows, same_read}
 use Rattle.desk.specs.Words.{word_of, field, stores}
 use Rattle.desk.specs.View.{request_at, active_at, finished_at, Rest, the_rest, view, Valid}
 use Rattle.desk.specs.Promise.{Does}
-use Rattle.desk.specs.Ticking.{marked, marked_from}
+use Rattle.desk.specs.Ticking.{marked, all_marked}
 use Rattle.desk.proofs.Read.{SameRequest, SamePlace, same_request_at, same_active_at, same_finished_at, kept_place, then_place, then_request, stores_other}
 use Rattle.desk.proofs.Views.{board_same, does, same_freezes, same_waiting}
-
--- ---- along the active row, a step at a time
-
-module _ (m : List ℕ) (clock h i : ℕ) where
-  pub marked_over : 32 ≤ i → marked_from (32 - i) m clock h ≡ m
-  unfolding marked_from
-  marked_over l = let e : 32 - i ≡ 0 = omega arith in ap (λ n. marked_from n m clock h) e
-
-  pub marked_end : i < 32 → 32 ≤ h → marked_from (32 - i) m clock h ≡ m
-  unfolding marked_from
-  marked_end l e = let d : 32 - i ≡ suc (32 - (i + 1)) = omega arith in ap (λ n. marked_from n m clock h) d ∙ rw (le-leb 32 h e)
-
-  pub marked_next : i < 32 → h < 32 → marked_from (32 - i) m clock h ≡ marked_from (32 - (i + 1)) (marked m h clock) clock (next (marked m h clock) h)
-  unfolding marked_from
-  marked_next l e = let d : 32 - i ≡ suc (32 - (i + 1)) = omega arith in ap (λ n. marked_from n m clock h) d ∙ rw (lt-leb 32 h e)
 
 -- ---- one place
 
@@ -137,47 +123,98 @@ one_marked clock m m' k h p l b hp sz n r d =
     }
 
 -- the links are those of b throughout
-marked_run : (fuel : ℕ) (clock : ℕ) (b m : List ℕ) (k h : ℕ) (l : List ℕ) → length b ≡ 838 → SameLinks b m → length l ≤ fuel → Run b k h l → Marked clock m (marked_from fuel m clock h) l
-unfolding marked_from
-marked_run zero clock b m k h [] sz s f r = none_marked clock m
-marked_run zero clock b m k h (p ∷ l) sz s f r = absurd (omega arith)
-marked_run (suc fuel) clock b m k h [] sz s f r = rw (le-leb 32 h r) (none_marked clock m)
-marked_run (suc fuel) clock b m k h (p ∷ l) sz s f r =
-    let s' = marked_links m p clock r.1 b s in
-    rw (r.0, lt-leb 32 p r.1, s'.links p (omega (arith, r.1)))
-    (one_marked clock m _ k (next b p) p l b r.1 (s.size ∙ sz) r.3 r.4 (marked_run fuel clock b (marked m p clock) k (next b p) l sz s' (omega arith) r.4))
+marked_run : (clock : ℕ) (b m : List ℕ) (k h : ℕ) (l : List ℕ) → length b ≡ 838 → SameLinks b m → Run b k h l → Marked clock m (all_marked m clock l) l
+unfolding all_marked
+marked_run clock b m k h [] sz s r = none_marked clock m
+marked_run clock b m k h (p ∷ l) sz s r =
+    one_marked clock m _ k (next b p) p l b r.1 (s.size ∙ sz) r.3 r.4 (marked_run clock b (marked m p clock) k (next b p) l sz (marked_links m p clock r.1 b s) r.4)
+
+-- ---- along the active row, a step at a time
+
+-- the links lead on as before
+same_walk : (n : ℕ) (m m' : List ℕ) (h : ℕ) → SameLinks m m' → walk n m' h ≡ walk n m h
+unfolding walk
+same_walk zero m m' h s = refl
+same_walk (suc n) m m' h s = go (ltb h 32) refl (same_walk n m m' (next m h) s)
+  where
+    go : (c : Bool) → ltb h 32 ≡ c → walk n m' (next m h) ≡ walk n m (next m h) → cond c (h ∷ walk n m' (next m' h)) [] ≡ cond c (h ∷ walk n m (next m h)) []
+    go true e i = let l = ltb-true h 32 e in ap (λ (z : List ℕ). h ∷ z) (ap (walk n m') (s.links h (omega arith)) ∙ i)
+    go false e i = refl
+
+-- the places still before the walk
+abbrev pub places_from : (n : ℕ) → List ℕ → Option ℕ → List ℕ
+places_from n m None = []
+places_from n m (Some p) = walk n m p
+
+-- as a word names the first of them
+pub places_named : (n : ℕ) (m : List ℕ) (h : ℕ) → places_from n m (as_place h) ≡ walk n m h
+places_named n m h = go (ltb h 32) refl
+  where
+    go : (c : Bool) → ltb h 32 ≡ c → places_from n m (cond c (Some h) None) ≡ walk n m h
+    go true e = refl
+    go false e = sym (walk_end m n h (ltb-false h 32 e))
+
+-- the walk begins with the whole row
+pub walk_begun : (m : List ℕ) → row_of m 2 ≡ places_from 32 m (as_place (head m 2))
+unfolding row_of
+walk_begun m = sym (places_named 32 m (head m 2))
+
+-- it ends with no place left
+pub walk_over : (m : List ℕ) (clock n : ℕ) (at : Option ℕ) → n ≡ 0 → all_marked m clock (places_from n m at) ≡ m
+unfolding all_marked walk
+walk_over m clock n at e = ap (λ z. all_marked m clock (places_from z m at)) e ∙ go at
+  where
+    go : (o : Option ℕ) → all_marked m clock (places_from 0 m o) ≡ m
+    go None = refl
+    go (Some p) = refl
+
+pub walk_ended : (m : List ℕ) (clock n : ℕ) (at : Option ℕ) → at ≡ None → all_marked m clock (places_from n m at) ≡ m
+unfolding all_marked
+walk_ended m clock n at e = ap (λ o. all_marked m clock (places_from n m o)) e
+
+-- one more is marked
+pub mark_more : (m : List ℕ) (clock i p : ℕ) → i < 32 → p < 32
+    → all_marked m clock (places_from (32 - i) m (Some p)) ≡ all_marked (marked m p clock) clock (places_from (32 - (i + 1)) (marked m p clock) (as_place (next (marked m p clock) p)))
+unfolding all_marked
+mark_more m clock i p l h =
+    let m' = marked m p clock in
+    let n = 32 - (i + 1) in
+    let s : SameLinks m m' = marked_links m p clock h m (same_links m) in
+    let left : (32 - i) - 1 ≡ n = omega arith in
+    ap (all_marked m clock) (walk_more m (32 - i) p (omega arith) h ∙ ap (λ z. p ∷ walk z m (next m p)) left)
+    ∙ ap (all_marked m' clock) (sym (places_named n m' (next m' p) ∙ (ap (walk n m') (s.links p (omega arith)) ∙ same_walk n m m' (next m p) s)))
 
 -- ---- the board: all active requests are marked, and the clock is the new one
 
 module _ (m : List ℕ) (r : Rest) (clock : ℕ) (v : Valid m r) where
   abbrev m' : List ℕ
-  m' = marked_from 32 m clock (head m 2)
+  m' = all_marked m clock (row_of m 2)
 
   abbrev r' : Rest
   r' = the_rest clock r.mark r.given
 
-  all_marked : Marked clock m m' (row_of m 2)
-  all_marked = marked_run 32 clock m m 2 (head m 2) (row_of m 2) v.rows.linked.size (same_links m) (row_short m v.rows 2 (omega arith)) (run_of m v.rows 2 (omega arith))
+  row_marked : Marked clock m m' (row_of m 2)
+  row_marked = marked_run clock m m 2 (head m 2) (row_of m 2) v.rows.linked.size (same_links m) (run_of m v.rows 2 (omega arith))
 
   ticked_rows : SoundRows m' × ((k : ℕ) → k < 67 → row_of m' k ≡ row_of m k)
-  ticked_rows = same_rows m m' all_marked.links v.rows
+  ticked_rows = same_rows m m' row_marked.links v.rows
 
   ticked_view : view m' r' ≡ with_active (map (time_passed clock) (view m r).active) (with_clock clock (view m r))
   unfolding view
   ticked_view =
       board_same (view m' r') (with_active (map (time_passed clock) (view m r).active) (with_clock clock (view m r)))
-      (same_waiting m m' r r' (λ w hw. same_read m m' (request_at m') (request_at m) all_marked.links v.rows (λ x hx. same_request_at (all_marked.request x hx)) (3 + w) (omega arith)))
-      (ap (map (active_at m')) (ticked_rows.1 2 (omega arith)) ∙ (all_marked.active ∙ sym (map-map (time_passed clock) (active_at m) (row_of m 2))))
+      (same_waiting m m' r r' (λ w hw. same_read m m' (request_at m') (request_at m) row_marked.links v.rows (λ x hx. same_request_at (row_marked.request x hx)) (3 + w) (omega arith)))
+      (ap (map (active_at m')) (ticked_rows.1 2 (omega arith)) ∙ (row_marked.active ∙ sym (map-map (time_passed clock) (active_at m) (row_of m 2))))
       (ap (map (finished_at m')) (ticked_rows.1 1 (omega arith))
       ∙ map_run m 1 (head m 1) (finished_at m') (finished_at m) (row_of m 1)
-      (λ x hx o. same_finished_at (all_marked.other x hx (not_in_run m 2 (head m 2) x (row_of m 2) (omega arith) (run_of m v.rows 2 (omega arith)))))
+      (λ x hx o. same_finished_at (row_marked.other x hx (not_in_run m 2 (head m 2) x (row_of m 2) (omega arith) (run_of m v.rows 2 (omega arith)))))
       (run_of m v.rows 1 (omega arith)))
-      (same_freezes m m' r r' (λ u hu. all_marked.low (262 + u) (omega arith)))
+      (same_freezes m m' r r' (λ u hu. row_marked.low (262 + u) (omega arith)))
       refl
       refl
       refl
 
-pub tick_does : (m : List ℕ) (r : Rest) (n : ℕ) → n ≡ suc r.clock % 2 ^ 32 → Does m (marked_from 32 m n (head m 2)) r (the_rest n r.mark r.given) tick (time n) []
+pub tick_does : (m : List ℕ) (r : Rest) (n : ℕ) → n ≡ suc r.clock % 2 ^ 32 → Does m (all_marked m n (row_of m 2)) r (the_rest n r.mark r.given) tick (time n) []
 unfolding step ticking view
 tick_does m r n e =
     does

@@ -7,14 +7,16 @@
 --       j = 0 unit, 1 callback, 2 callback wanted, 3 data length, 4 sense length, 5 autosense not disabled, 6 timeout, 7 to 9 CDB;
 --       while it is active 10 start, 11 asked, 12 overdue;
 --       when it is finished 10 status byte, 11 SCSI status, 12 autosense residual, 13 residual
-use Rattle.std.specs.Prelude.{◌≡◌, ℕ, zero, suc, ◌+◌, ◌*◌, ◌%◌, ◌<◌, ◌≤◌, Bool, true, false, cond, not, ◌&&◌, List, [], ◌∷◌, Result, Ok, Err, ◌==◌, nat_le, slice_index, slice_set, if◌then◌else◌}
+use Rattle.std.specs.Prelude.{◌≡◌, ℕ, suc, ◌+◌, ◌*◌, ◌%◌, ◌<◌, ◌≤◌, Bool, cond, not, ◌&&◌, List, [], ◌∷◌, Option, is_some, Result, Ok, Err, ◌==◌, slice_index, slice_set, if◌then◌else◌}
+use Rattle.std.specs.List.{list_any}
 use Rattle.board.specs.declared.Unit.{Unit}
 use Rattle.board.specs.declared.Request.{Request}
 use Rattle.board.specs.declared.Told.{Told}
 use Rattle.board.specs.declared.NoSuchUnit.{NoSuchUnit}
-use Rattle.board.specs.Plain.{◌=?◌}
+use Rattle.board.specs.Plain.{◌=?◌, ◌<?◌}
 use Rattle.board.specs.Block.{word, signed}
-use Rattle.rows.specs.Words.{next, head, popped, put_last, cut_out}
+use Rattle.rows.specs.Words.{head, as_place, popped, put_last, cut_out}
+use Rattle.rows.specs.Rows.{row_of}
 
 abbrev pub word_of : (place j : ℕ) → ℕ
 word_of p j = 326 + 16 * p + j
@@ -27,6 +29,14 @@ address_at m p = slice_index m (230 + p)
 
 abbrev pub freeze_at : List ℕ → (unit : ℕ) → ℕ
 freeze_at m u = slice_index m (262 + u)
+
+-- the unit of the request at place p
+abbrev pub unit_at : List ℕ → (place : ℕ) → ℕ
+unit_at m p = field m p 0 % 64
+
+-- the number of a unit that there is
+abbrev pub known : Unit → Result ℕ NoSuchUnit
+known u = if u.0 <? 64 then Ok u.0 else Err (record {})
 
 -- true is 1
 abbrev pub bit : Bool → ℕ
@@ -60,16 +70,13 @@ pub data FreezeSet (m m' : List ℕ) (u x : ℕ) : Result Bool NoSuchUnit → Ty
 
 -- ---- sending
 
--- along the links from h, at most `fuel`: a request of unit u
-unfoldable pub busy_from : (fuel : ℕ) → List ℕ → (u h : ℕ) → Bool
-busy_from zero m u h = false
-busy_from (suc fuel) m u h =
-    let more = busy_from fuel m u (next m h) in
-    cond (nat_le 32 h) false (cond (field m h 0 % 64 == u) true more)
+-- a request of unit u is active
+unfoldable pub has_active : List ℕ → (u : ℕ) → Bool
+has_active m u = list_any (λ p. unit_at m p == u) (row_of m 2)
 
 -- something waits on the unit, it isn't frozen and has none active
 unfoldable pub can_send : List ℕ → Unit → Bool
-can_send m u = not (nat_le 32 (head m (3 + u.0))) && freeze_at m u.0 == 0 && not (busy_from 32 m u.0 (head m 2))
+can_send m u = is_some (as_place (head m (3 + u.0))) && freeze_at m u.0 == 0 && not (has_active m u.0)
 
 -- the first one waiting on unit u is sent at this time
 unfoldable pub launched : List ℕ → (u clock : ℕ) → List ℕ
@@ -85,13 +92,9 @@ pub record ToldFits (x : Told) : Type 0 where
   pub residual : signed (word x.residual) ≡ x.residual
 
 -- the request at place p of row k, after q, goes to the end of the finished line
-unfoldable pub finished_words : List ℕ → (k q p : ℕ) → Told → List ℕ
+unfoldable pub finished_words : List ℕ → (k : ℕ) → (q : Option ℕ) → (p : ℕ) → Told → List ℕ
 finished_words m k q p x = put_last (closed (cut_out m k q p) p x) 1 p
 
 -- a bad end freezes the unit
 unfoldable pub frozen_if : List ℕ → (u : ℕ) → Bool → List ℕ
 frozen_if m u bad = cond bad (slice_set m (262 + u) 1) m
-
--- the unit of the request at place p
-abbrev pub unit_at : List ℕ → (place : ℕ) → ℕ
-unit_at m p = field m p 0 % 64

@@ -2,21 +2,22 @@
 // a refusal leaves every word as it was; and for every valid memory exactly `step`.
 #![tactic(auto)]
 
-ghost use Rattle.std.specs.Prelude.{◌≡◌, ℕ, ◌+◌, ◌<◌, []};
+ghost use Rattle.std.specs.Prelude.{◌≡◌, ℕ, ◌+◌, ◌<◌, [], Some, None};
 ghost use Rattle.board.specs.Board.{the_unit};
 ghost use Rattle.board.specs.Answers.{aborting_says, done, freezing_says, handing_back_says, looking_says, reporting_says, sending_says, taking_in_says, time};
 ghost use Rattle.board.specs.Block.{with_status};
 ghost use Rattle.board.specs.Calls.{abort, event, freeze, release, look, reset, send, tick};
 ghost use Rattle.board.specs.Sending.{rotation};
 ghost use Rattle.rows.specs.Words.{head};
-ghost use Rattle.desk.specs.Words.{bit, written, freeze_at, FreezeSet, busy_from, can_send, launched, closed, ToldFits, finished_words, frozen_if, unit_at};
-ghost use Rattle.desk.specs.Aborts.{stands, WaitsOn, aborted_told, aborted_words, asked_words};
+ghost use Rattle.rows.specs.Rows.{row_of};
+ghost use Rattle.desk.specs.Words.{known, written, freeze_at, FreezeSet, has_active, can_send, launched, closed, ToldFits, finished_words, frozen_if, unit_at};
+ghost use Rattle.desk.specs.Aborts.{WaitsOn, aborted_told, aborted_words, asked_words};
 ghost use Rattle.desk.specs.TakingIn.{held_to, entered, status_said};
 ghost use Rattle.desk.specs.Events.{closing_of, Reported};
 ghost use Rattle.desk.specs.View.{request_at, active_at, finished_at, Rest, the_rest};
 ghost use Rattle.desk.specs.Begins.{cleared};
-ghost use Rattle.desk.specs.Ticking.{marked, marked_from};
-ghost use Rattle.desk.specs.Resets.{reset_told, reset_words, smallest_spot, SmallestEnded};
+ghost use Rattle.desk.specs.Ticking.{marked, all_marked};
+ghost use Rattle.desk.specs.Resets.{reset_told, reset_words, smallest_spot};
 ghost use Rattle.desk.specs.Promise.{Does, Freezes, HandsBack, Sends, TakesIn, Ticks, Fresh};
 
 use block::Passed;
@@ -25,30 +26,63 @@ use board::{
     Sending, Sent, Ticket, Told, UnableToAbort, Unit, Unreported,
 };
 use ends::Closed;
-use rows::{Place, Spot, WORDS};
+use rows::{PLACES, Place, Row, Spot, WORDS};
+use std::marker::Model;
 
-// A word as an index.
-fn wide(x: u32) -> usize
-    ensures { result ≡ x }
-{
-    x as usize
+const UNITS: usize = 64;
+
+// ---- rows and units
+
+const FREE: Row = Row(0);
+
+const FINISHED: Row = Row(1);
+
+// In the order of sending.
+const ACTIVE: Row = Row(2);
+
+// A unit that there is, 0 to 63: a Unit may be any byte. To a clause it is its number.
+#[derive(Clone, Copy)]
+struct KnownUnit(usize);
+
+impl Model for KnownUnit {
+    ghost use Rattle.std.specs.Prelude.{ℕ, ◌<◌};
+    ghost use Rattle.desk.specs.declared.TheConstants.{UNITS};
+
+    ghost Value = { ℕ };
+
+    ghost view = { λ u. u.0 };
+
+    ghost invariant = { λ u. u.0 < UNITS };
+
+    ghost inverse = { λ n. record { 0 = n } };
 }
 
-// A byte as an index.
-fn wide8(x: u8) -> usize
-    ensures { result ≡ x }
+// The unit of this number, where there is one.
+fn known(unit: Unit) -> Result<KnownUnit, NoSuchUnit>
+    ensures { result ≡ known unit }
 {
-    x as usize
+    let u = usize::from(unit.0);
+    if u < UNITS {
+        Ok(KnownUnit(u))
+    } else {
+        Err(NoSuchUnit)
+    }
+}
+
+// The row of what waits on a unit, in order.
+fn waiting_on(unit: KnownUnit) -> Row
+    ensures { result ≡ 3 + unit }
+{
+    Row(3 + unit.0)
 }
 
 // ---- reading
 
 // The request at a place.
-fn request_at(mem: &[u32; WORDS], p: Place) -> Request
-    requires { p.0 < 32 }
-    ensures { result ≡ request_at mem.now p.0 }
+fn request_at(mem: &[u32; WORDS], place: Place) -> Request
+    ensures { result ≡ request_at mem.now place }
 {
-    let i = p.0;
+    let i = place.0;
     let b = 326 + 16 * i;
     Request {
         ticket: Ticket(mem[198 + i]),
@@ -69,29 +103,28 @@ fn request_at(mem: &[u32; WORDS], p: Place) -> Request
 }
 
 // The unit of the request at a place.
-fn unit_at(mem: &[u32; WORDS], p: Place) -> usize
-    requires { p.0 < 32 }
-    ensures { (result ≡ unit_at mem.now p.0) × (result < 64) }
+fn unit_at(mem: &[u32; WORDS], place: Place) -> KnownUnit
+    ensures { result ≡ unit_at mem.now place }
 {
-    let i = p.0;
-    wide(mem[326 + 16 * i + 0]) % 64
+    let i = place.0;
+    KnownUnit(mem[326 + 16 * i + 0] as usize % UNITS)
 }
 
 // ---- a fresh board
 
 // No unit is frozen.
+#[tactic(auto, using(crate::proofs::Begins::cleared_none, crate::proofs::Begins::cleared_next))]
 fn clear_freezes(mem: &mut [u32; WORDS])
     ensures { mem.new ≡ cleared 64 mem.old }
 {
-    let mut u: usize = 0;
-    while u < 64 {
-        mem[262 + u] = 0;
-        u += 1;
+    for unit in 0..UNITS {
+        mem[262 + unit] = 0;
     }
 }
 
 // A fresh board, from any words: all places free, no unit frozen. The clock is 0, the mark 63 and no ticket given: they are the
 // caller's to set.
+#[tactic(auto, using(crate::proofs::Begins::begins))]
 pub fn fresh(mem: &mut [u32; WORDS])
     ensures { Fresh mem.new }
 {
@@ -102,43 +135,31 @@ pub fn fresh(mem: &mut [u32; WORDS])
 // ---- taking in
 
 // A live request has this address: a look along the plane of addresses, free places aside.
+#[tactic(auto, using(crate::proofs::Held::held_none, crate::proofs::Held::held_next))]
 fn address_held(mem: &[u32; WORDS], address: u32) -> bool
     ensures { result ≡ held_to 32 mem.now address }
 {
     let mut held = false;
-    let mut i: usize = 0;
-    while i < 32 {
-        held = held | ((mem[230 + i] == address) & (mem[32 + i] != 0));
-        i += 1;
+    for i in 0..PLACES {
+        held |= (mem[230 + i] == address) & (mem[32 + i] != 0);
     }
     held
 }
 
-// True is 1.
-fn bit_of(c: bool) -> u32
-    ensures { result ≡ bit c }
-{
-    if c {
-        return 1;
-    }
-    0
-}
-
 // A request is written at a place.
-fn write_request(mem: &mut [u32; WORDS], p: Place, q: Request)
-    requires { p.0 < 32 }
-    ensures { mem.new ≡ written mem.old p.0 q }
+fn write_request(mem: &mut [u32; WORDS], place: Place, q: Request)
+    ensures { mem.new ≡ written mem.old place q }
 {
-    let i = p.0;
+    let i = place.0;
     let b = 326 + 16 * i;
     mem[198 + i] = q.ticket.0;
     mem[230 + i] = q.address;
-    mem[b + 0] = q.unit.0 as u32;
+    mem[b + 0] = u32::from(q.unit.0);
     mem[b + 1] = q.callback;
-    mem[b + 2] = bit_of(q.wanted);
+    mem[b + 2] = u32::from(q.wanted);
     mem[b + 3] = q.length;
-    mem[b + 4] = q.sense as u32;
-    mem[b + 5] = bit_of(q.autosense);
+    mem[b + 4] = u32::from(q.sense);
+    mem[b + 5] = u32::from(q.autosense);
     mem[b + 6] = q.timeout;
     mem[b + 7] = q.cdb.first;
     mem[b + 8] = q.cdb.second;
@@ -146,18 +167,18 @@ fn write_request(mem: &mut [u32; WORDS], p: Place, q: Request)
 }
 
 // The first free place is taken; the request is written there, and joins its unit's waiting order, at the front or at the end.
-fn enter(mem: &mut [u32; WORDS], p: Place, q: Request, front: bool)
-    requires { (p.0 < 32) × (q.unit.0 < 64) }
-    ensures { mem.new ≡ entered mem.old p.0 q front }
+#[tactic(auto, unfolding(crate::specs::TakingIn::entered))]
+fn enter(mem: &mut [u32; WORDS], place: Place, q: Request, front: bool)
+    requires { q.unit.0 < 64 }
+    ensures { mem.new ≡ entered mem.old place q front }
 {
-    let unit = q.unit;
-    let k = 3 + wide8(unit.0);
-    rows::take_first(mem, 0, p);
-    write_request(mem, p, q);
+    let row = waiting_on(KnownUnit(usize::from(q.unit.0)));
+    rows::take_first(mem, FREE, place);
+    write_request(mem, place, q);
     if front {
-        rows::put_first(mem, k, p);
+        rows::put_first(mem, row, place);
     } else {
-        rows::put_last(mem, k, p);
+        rows::put_last(mem, row, place);
     }
 }
 
@@ -174,11 +195,8 @@ fn admit(mem: &mut [u32; WORDS], block: &[u8], given: &mut u32) -> Result<Ticket
     if *given == u32::MAX {
         return Err(Refusal::CamBusy);
     }
-    let p = rows::first_of(mem, 0);
-    if 32 <= p.0 {
-        return Err(Refusal::CamBusy);
-    }
-    enter(mem, p, request, front);
+    let place = rows::first_of(mem, FREE).ok_or(Refusal::CamBusy)?;
+    enter(mem, place, request, front);
     *given = ticket.0;
     Ok(ticket)
 }
@@ -199,14 +217,12 @@ pub fn take_in(mem: &mut [u32; WORDS], block: &mut [u8], given: &mut u32) -> Res
 // ---- the finished line
 
 // Look at the finished line: the first ticket, address, callback and whether callback is wanted, or "empty".
+#[tactic(auto, using(crate::proofs::Looks::look_empty, crate::proofs::Looks::look_first))]
 pub fn look(mem: &[u32; WORDS]) -> Option<First>
     ensures { (rest : Rest) → Does mem.now mem.now rest rest look (looking_says result) [] }
 {
-    let p = rows::first_of(mem, 1);
-    if 32 <= p.0 {
-        return None;
-    }
-    let q = request_at(mem, p);
+    let place = rows::first_of(mem, FINISHED)?;
+    let q = request_at(mem, place);
     Some(First {
         ticket: q.ticket,
         address: q.address,
@@ -218,13 +234,11 @@ pub fn look(mem: &[u32; WORDS]) -> Option<First>
 // ---- freeze and release
 
 // A unit's freeze becomes x, whatever it was: whether it was frozen before; refused above 63.
+#[tactic(auto, using(crate::proofs::Freezes::unit_refused, crate::proofs::Freezes::unit_set))]
 fn set_freeze(mem: &mut [u32; WORDS], u: Unit, x: u32) -> Result<bool, NoSuchUnit>
     ensures { FreezeSet mem.old mem.new u.0 x result }
 {
-    let i = usize::from(u.0);
-    if 64 <= i {
-        return Err(NoSuchUnit);
-    }
+    let KnownUnit(i) = known(u)?;
     let was = mem[262 + i];
     mem[262 + i] = x;
     Ok(was != 0)
@@ -247,53 +261,34 @@ pub fn release(mem: &mut [u32; WORDS], u: Unit) -> Result<bool, NoSuchUnit>
 // ---- sending
 
 // The unit has an active request.
-fn is_busy(mem: &[u32; WORDS], u: usize) -> bool
-    ensures { result ≡ busy_from 32 mem.now u (head mem.now 2) }
+fn is_busy(mem: &[u32; WORDS], unit: KnownUnit) -> bool
+    ensures { result ≡ has_active mem.now unit }
 {
-    let mut h = rows::first_of(mem, 2).0;
-    let mut i: usize = 0;
-    while i < 32 {
-        if 32 <= h {
-            return false;
-        }
-        if wide(mem[326 + 16 * h + 0] % 64) == u {
-            return true;
-        }
-        h = rows::next_of(mem, Place(h)).0;
-        i += 1;
-    }
-    false
+    rows::places_of(mem, ACTIVE).any(|place| unit_at(mem, place).0 == unit.0)
 }
 
 // A unit is eligible if something waits on it, it isn't frozen and it has none active.
-fn can_go(mem: &[u32; WORDS], u: usize) -> bool
-    requires { u < 64 }
-    ensures { result ≡ can_send mem.now (the_unit u) }
+#[tactic(auto, unfolding(crate::specs::Words::can_send))]
+fn can_go(mem: &[u32; WORDS], unit: KnownUnit) -> bool
+    ensures { result ≡ can_send mem.now (the_unit unit) }
 {
-    let first = rows::first_of(mem, 3 + u).0;
-    let frozen = mem[262 + u];
-    if 32 <= first {
-        return false;
-    }
-    if frozen != 0 {
-        return false;
-    }
-    !is_busy(mem, u)
+    rows::first_of(mem, waiting_on(unit)).is_some() && mem[262 + unit.0] == 0 && !is_busy(mem, unit)
 }
 
 // Look at units from mark + 1 round to the mark itself, and stop at the first eligible one. (Document 01 names the form: a loop that
 // breaks with the found unit and its count, or ends with none.)
+#[tactic(auto, using(crate::proofs::Eligible::rotation_over, crate::proofs::Eligible::rotation_stop, crate::proofs::Eligible::rotation_next))]
 fn rotate(mem: &[u32; WORDS], mark: Unit) -> Option<Found>
     ensures { result ≡ rotation (can_send mem.now) mark 64 1 }
 {
-    let from = mark.0 as usize;
+    let from = usize::from(mark.0);
     let mut n: usize = 1;
     loop {
         if 64 < n {
             break None;
         }
         let u = (from + n) % 64;
-        if can_go(mem, u) {
+        if can_go(mem, KnownUnit(u)) {
             break Some(Found {
                 unit: Unit(u as u8),
                 looked: n as u8,
@@ -303,19 +298,21 @@ fn rotate(mem: &[u32; WORDS], mark: Unit) -> Option<Found>
     }
 }
 
-// The first request waiting on unit u is sent: it becomes active, and its start is the clock. Answers the request.
-fn launch(mem: &mut [u32; WORDS], u: usize, clock: u32) -> Request
-    requires { (u < 64) × (head mem.old (3 + u) < 32) }
-    ensures { (mem.new ≡ launched mem.old u clock) × (result ≡ request_at mem.old (head mem.old (3 + u))) }
+// The first request waiting on a unit, which has one, is sent: it becomes active, and its start is the clock. Answers the request.
+#[tactic(auto, unfolding(crate::specs::Words::launched, crate::specs::Words::started, crate::specs::Words::stores))]
+fn launch(mem: &mut [u32; WORDS], unit: KnownUnit, clock: u32) -> Request
+    requires { head mem.old (3 + unit) < 32 }
+    ensures { (mem.new ≡ launched mem.old unit clock) × (result ≡ request_at mem.old (head mem.old (3 + unit))) }
 {
-    let p = rows::first_of(mem, 3 + u);
-    let i = p.0;
-    let q = request_at(mem, p);
-    rows::take_first(mem, 3 + u, p);
+    let row = waiting_on(unit);
+    let place = rows::first_of(mem, row).unwrap();
+    let i = place.0;
+    let q = request_at(mem, place);
+    rows::take_first(mem, row, place);
     mem[326 + 16 * i + 10] = clock;
     mem[326 + 16 * i + 11] = 0;
     mem[326 + 16 * i + 12] = 0;
-    rows::put_last(mem, 2, p);
+    rows::put_last(mem, ACTIVE, place);
     q
 }
 
@@ -331,7 +328,7 @@ pub struct Went {
 pub fn send(mem: &mut [u32; WORDS], clock: u32, mark: Unit) -> Went
     ensures { Sends mem.old mem.new clock mark result.mark (sending_says result.answer) }
 {
-    if 8 <= rows::length_of(mem, 2) {
+    if 8 <= rows::length_of(mem, ACTIVE) {
         return Went {
             answer: Sending {
                 sent: None,
@@ -349,7 +346,7 @@ pub fn send(mem: &mut [u32; WORDS], clock: u32, mark: Unit) -> Went
             mark,
         },
         Some(Found { unit, looked }) => {
-            let q = launch(mem, wide8(unit.0), clock);
+            let q = launch(mem, KnownUnit(usize::from(unit.0)), clock);
             let sent = Some(Sent {
                 ticket: q.ticket,
                 unit,
@@ -366,13 +363,12 @@ pub fn send(mem: &mut [u32; WORDS], clock: u32, mark: Unit) -> Went
 // ---- hand back
 
 // The finished request at a place.
-fn finished_at(mem: &[u32; WORDS], p: Place) -> Finished
-    requires { p.0 < 32 }
-    ensures { result ≡ finished_at mem.now p.0 }
+fn finished_at(mem: &[u32; WORDS], place: Place) -> Finished
+    ensures { result ≡ finished_at mem.now place }
 {
-    let i = p.0;
+    let i = place.0;
     let b = 326 + 16 * i;
-    let request = request_at(mem, p);
+    let request = request_at(mem, place);
     let residual = block::signed_of(mem[b + 13]);
     Finished {
         request,
@@ -386,19 +382,17 @@ fn finished_at(mem: &[u32; WORDS], p: Place) -> Finished
 }
 
 // Hand back with a lent block: its seven bytes are written, and the first finished request is removed; its place is free.
+#[tactic(auto, using(crate::proofs::HandsBack::hand_back_empty, crate::proofs::HandsBack::hand_back_other, crate::proofs::HandsBack::hand_back_first))]
 pub fn hand_back(mem: &mut [u32; WORDS], block: &mut [u8]) -> Result<Handed, NotHanded>
     ensures { HandsBack mem.old mem.new block.old block.new (handing_back_says result) }
 {
-    let p = rows::first_of(mem, 1);
-    if 32 <= p.0 {
-        return Err(NotHanded::LineEmpty);
-    }
-    let x = finished_at(mem, p);
+    let place = rows::first_of(mem, FINISHED).ok_or(NotHanded::LineEmpty)?;
+    let x = finished_at(mem, place);
     if !block::hand_over(block, x) {
         return Err(NotHanded::NotItsBlock);
     }
-    rows::take_first(mem, 1, p);
-    rows::put_last(mem, 0, p);
+    rows::take_first(mem, FINISHED, place);
+    rows::put_last(mem, FREE, place);
     Ok(Handed {
         ticket: x.request.ticket,
         told: x.told,
@@ -408,13 +402,12 @@ pub fn hand_back(mem: &mut [u32; WORDS], block: &mut [u8]) -> Result<Handed, Not
 // ---- how a request ends
 
 // The active request at a place.
-fn active_at(mem: &[u32; WORDS], p: Place) -> Active
-    requires { p.0 < 32 }
-    ensures { result ≡ active_at mem.now p.0 }
+fn active_at(mem: &[u32; WORDS], place: Place) -> Active
+    ensures { result ≡ active_at mem.now place }
 {
-    let i = p.0;
+    let i = place.0;
     let b = 326 + 16 * i;
-    let request = request_at(mem, p);
+    let request = request_at(mem, place);
     Active {
         request,
         start: mem[b + 10],
@@ -424,60 +417,55 @@ fn active_at(mem: &[u32; WORDS], p: Place) -> Active
 }
 
 // What a block will be told is kept at a place.
-fn write_told(mem: &mut [u32; WORDS], p: Place, told: Told)
-    requires { p.0 < 32 }
-    ensures { (mem.new ≡ closed mem.old p.0 told) × ToldFits told }
+fn write_told(mem: &mut [u32; WORDS], place: Place, told: Told)
+    ensures { (mem.new ≡ closed mem.old place told) × ToldFits told }
 {
-    let i = p.0;
+    let i = place.0;
     let signed = told.residual;
     let residual = block::word_of(signed);
-    mem[326 + 16 * i + 10] = told.status as u32;
-    mem[326 + 16 * i + 11] = told.scsi as u32;
-    mem[326 + 16 * i + 12] = told.unsensed as u32;
+    mem[326 + 16 * i + 10] = u32::from(told.status);
+    mem[326 + 16 * i + 11] = u32::from(told.scsi);
+    mem[326 + 16 * i + 12] = u32::from(told.unsensed);
     mem[326 + 16 * i + 13] = residual;
 }
 
-// A request of row k ends: it goes to the back of the finished line. q is the place before it, or 32.
-fn finish(mem: &mut [u32; WORDS], k: usize, q: Place, p: Place, told: Told)
-    requires { (k < 67) × (p.0 < 32) }
-    ensures { (mem.new ≡ finished_words mem.old k q.0 p.0 told) × ToldFits told }
+// A request of a row ends: it goes to the back of the finished line.
+#[tactic(auto, unfolding(crate::specs::Words::finished_words))]
+fn finish(mem: &mut [u32; WORDS], row: Row, spot: Spot, told: Told)
+    ensures { (mem.new ≡ finished_words mem.old row spot.before spot.place told) × ToldFits told }
 {
-    rows::take_out(mem, k, q, p);
-    write_told(mem, p, told);
-    rows::put_last(mem, 1, p);
+    let Spot { before, place } = spot;
+    rows::take_out(mem, row, before, place);
+    write_told(mem, place, told);
+    rows::put_last(mem, FINISHED, place);
 }
 
 // A bad end freezes its unit.
-fn freeze_if(mem: &mut [u32; WORDS], u: usize, bad: bool)
-    requires { u < 64 }
-    ensures { mem.new ≡ frozen_if mem.old u bad }
+#[tactic(auto, unfolding(crate::specs::Words::frozen_if))]
+fn freeze_if(mem: &mut [u32; WORDS], unit: KnownUnit, bad: bool)
+    ensures { mem.new ≡ frozen_if mem.old unit bad }
 {
     if bad {
-        mem[262 + u] = 1;
+        mem[262 + unit.0] = 1;
     }
 }
 
-// An event on the active request at a place; q is the place before it in its row, or 32.
-fn report_at(
-    mem: &mut [u32; WORDS],
-    q: Place,
-    p: Place,
-    what: Event,
-    moved: u32,
-) -> Result<(), Unreported>
-    requires { p.0 < 32 }
-    ensures { Reported mem.old mem.new q.0 p.0 (closing_of mem.old p.0 what moved) result }
+// An event on an active request.
+fn report_at(mem: &mut [u32; WORDS], spot: Spot, what: Event, moved: u32) -> Result<(), Unreported>
+    ensures { Reported mem.old mem.new spot.before spot.place (closing_of mem.old spot.place what moved) result }
 {
-    let a = active_at(mem, p);
-    let i = unit_at(mem, p);
-    let frozen = mem[262 + i] != 0;
+    let place = spot.place;
+    let a = active_at(mem, place);
+    let unit = unit_at(mem, place);
+    let frozen = mem[262 + unit.0] != 0;
     let Closed { told, bad } = ends::close(a, what, moved, frozen)?;
-    finish(mem, 2, q, p, told);
-    freeze_if(mem, i, bad);
+    finish(mem, ACTIVE, spot, told);
+    freeze_if(mem, unit, bad);
     Ok(())
 }
 
 // The adapter reports an event on a ticket, with the bytes moved.
+#[tactic(auto, using(crate::proofs::Reports::report_none, crate::proofs::Reports::report_some))]
 pub fn report(
     mem: &mut [u32; WORDS],
     ticket: Ticket,
@@ -486,127 +474,94 @@ pub fn report(
 ) -> Result<(), Unreported>
     ensures { (rest : Rest) → Does mem.old mem.new rest rest (event ticket what moved) (reporting_says result) [] }
 {
-    match rows::seek(mem, 2, ticket) {
-        Spot::Nowhere => Err(Unreported::NotActive),
-        Spot::At { before, place } => report_at(mem, before, place, what, moved),
-    }
+    let Spot { before, place } = rows::seek(mem, ACTIVE, ticket).ok_or(Unreported::NotActive)?;
+    report_at(mem, Spot { before, place }, what, moved)
 }
 
 // ---- abort
 
-// A place of row k has the ticket.
-fn stands_in(mem: &[u32; WORDS], k: usize, ticket: Ticket) -> bool
-    requires { k < 67 }
-    ensures { result ≡ stands mem.now k ticket.0 }
-{
-    match rows::seek(mem, k, ticket) {
-        Spot::Nowhere => false,
-        Spot::At { before, place } => true,
-    }
+// A request that waits: its unit, and where it stands in that unit's row.
+#[derive(Clone, Copy)]
+struct Waiting {
+    unit: KnownUnit,
+    spot: Spot,
 }
 
-// The unit on which the ticket waits; 64 if it doesn't wait.
-fn waits_on(mem: &[u32; WORDS], ticket: Ticket) -> usize
+// The first unit on which the ticket waits, and where.
+#[tactic(auto, using(crate::proofs::AbortsBy::none_more))]
+fn waits_on(mem: &[u32; WORDS], ticket: Ticket) -> Option<Waiting>
     ensures { WaitsOn mem.now ticket.0 result }
 {
-    let mut u: usize = 0;
-    loop {
-        if 64 <= u {
-            break u;
+    for u in 0..UNITS {
+        let unit = KnownUnit(u);
+        if let Some(spot) = rows::seek(mem, waiting_on(unit), ticket) {
+            return Some(Waiting { unit, spot });
         }
-        if stands_in(mem, 3 + u, ticket) {
-            break u;
-        }
-        u += 1;
     }
+    None
 }
 
 // The request at a place is marked: the host asked for its abort.
-fn mark_asked(mem: &mut [u32; WORDS], p: Place)
-    requires { p.0 < 32 }
-    ensures { mem.new ≡ asked_words mem.old p.0 }
+#[tactic(auto, unfolding(crate::specs::Aborts::asked_words))]
+fn mark_asked(mem: &mut [u32; WORDS], place: Place)
+    ensures { mem.new ≡ asked_words mem.old place }
 {
-    let i = p.0;
+    let i = place.0;
     mem[326 + 16 * i + 11] = 1;
 }
 
-// The request at a place, waiting on unit u, ends with 02h.
-fn end_waiting(mem: &mut [u32; WORDS], u: usize, q: Place, p: Place)
-    requires { (u < 64) × (p.0 < 32) }
-    ensures { (mem.new ≡ aborted_words mem.old u q.0 p.0) × ToldFits (aborted_told mem.old u p.0) }
+// A request, waiting on a unit, ends with 02h.
+#[tactic(auto, unfolding(crate::specs::Aborts::aborted_told, crate::specs::Aborts::aborted_words))]
+fn end_waiting(mem: &mut [u32; WORDS], unit: KnownUnit, spot: Spot)
+    ensures { (mem.new ≡ aborted_words mem.old unit spot.before spot.place) × ToldFits (aborted_told mem.old unit spot.place) }
 {
-    let request = request_at(mem, p);
-    let frozen = mem[262 + u] != 0;
+    let request = request_at(mem, spot.place);
+    let frozen = mem[262 + unit.0] != 0;
     let told = ends::aborted(request, frozen);
-    finish(mem, 3 + u, q, p, told);
-}
-
-// Abort by ticket, waiting on unit u.
-fn abort_waiting(mem: &mut [u32; WORDS], u: usize, ticket: Ticket) -> Result<(), UnableToAbort>
-    requires { (u < 64) × WaitsOn mem.old ticket.0 u }
-    ensures { (rest : Rest) → Does mem.old mem.new rest rest (abort ticket) (aborting_says result) [] }
-{
-    match rows::seek(mem, 3 + u, ticket) {
-        Spot::Nowhere => Err(UnableToAbort),
-        Spot::At { before, place } => {
-            end_waiting(mem, u, before, place);
-            Ok(())
-        }
-    }
-}
-
-// Abort by ticket, not waiting.
-fn abort_active(mem: &mut [u32; WORDS], ticket: Ticket) -> Result<(), UnableToAbort>
-    requires { WaitsOn mem.old ticket.0 64 }
-    ensures { (rest : Rest) → Does mem.old mem.new rest rest (abort ticket) (aborting_says result) [] }
-{
-    match rows::seek(mem, 2, ticket) {
-        Spot::Nowhere => Err(UnableToAbort),
-        Spot::At { before, place } => {
-            mark_asked(mem, place);
-            Ok(())
-        }
-    }
+    finish(mem, waiting_on(unit), spot, told);
 }
 
 // Abort by ticket: waiting ends at once, active is marked asked, else refusal 03h.
+#[tactic(auto, using(crate::proofs::AbortsBy::abort_waiting_done, crate::proofs::AbortsBy::abort_active_done, crate::proofs::AbortsBy::abort_refused))]
 pub fn abort(mem: &mut [u32; WORDS], ticket: Ticket) -> Result<(), UnableToAbort>
     ensures { (rest : Rest) → Does mem.old mem.new rest rest (abort ticket) (aborting_says result) [] }
 {
-    let u = waits_on(mem, ticket);
-    if u < 64 {
-        return abort_waiting(mem, u, ticket);
+    if let Some(Waiting { unit, spot }) = waits_on(mem, ticket) {
+        end_waiting(mem, unit, spot);
+        return Ok(());
     }
-    abort_active(mem, ticket)
+    let spot = rows::seek(mem, ACTIVE, ticket).ok_or(UnableToAbort)?;
+    mark_asked(mem, spot.place);
+    Ok(())
 }
 
 // ---- tick
 
 // The active request at a place is overdue if it is late at this time.
-fn mark_if_late(mem: &mut [u32; WORDS], p: Place, clock: u32)
-    requires { p.0 < 32 }
-    ensures { mem.new ≡ marked mem.old p.0 clock }
+#[tactic(auto, unfolding(crate::specs::Ticking::marked))]
+fn mark_if_late(mem: &mut [u32; WORDS], place: Place, clock: u32)
+    ensures { mem.new ≡ marked mem.old place clock }
 {
-    let i = p.0;
-    let a = active_at(mem, p);
+    let i = place.0;
+    let a = active_at(mem, place);
     if ends::late_at(clock, a) {
         mem[326 + 16 * i + 12] = 1;
     }
 }
 
-// Each active request that is late at this time is overdue.
+// Each active request that is late at this time is overdue. (Link by link, and no Walk: that would keep the memory from being written
+// on the way.)
+#[tactic(auto, using(crate::proofs::Ticks::walk_begun, crate::proofs::Ticks::walk_ended, crate::proofs::Ticks::walk_over, crate::proofs::Ticks::mark_more))]
 fn mark_late(mem: &mut [u32; WORDS], clock: u32)
-    ensures { mem.new ≡ marked_from 32 mem.old clock (head mem.old 2) }
+    ensures { mem.new ≡ all_marked mem.old clock (row_of mem.old 2) }
 {
-    let mut h = rows::first_of(mem, 2).0;
-    let mut i: usize = 0;
-    while i < 32 {
-        if 32 <= h {
+    let mut at = rows::first_of(mem, ACTIVE);
+    for _ in 0..PLACES {
+        let Some(place) = at else {
             return;
-        }
-        mark_if_late(mem, Place(h), clock);
-        h = rows::next_of(mem, Place(h)).0;
-        i += 1;
+        };
+        mark_if_late(mem, place, clock);
+        at = rows::next_of(mem, place);
     }
 }
 
@@ -621,39 +576,36 @@ pub fn tick(mem: &mut [u32; WORDS], clock: u32) -> u32
 
 // ---- bus reset
 
-// The active request at a place ends with 0Eh, and its unit is frozen. q is the place before it in its row, or 32.
-fn end_by_reset(mem: &mut [u32; WORDS], q: Place, p: Place)
-    requires { p.0 < 32 }
-    ensures { (mem.new ≡ reset_words mem.old q.0 p.0) × ToldFits (reset_told mem.old p.0) }
+// An active request ends with 0Eh, and its unit is frozen.
+#[tactic(auto, unfolding(crate::specs::Resets::reset_told, crate::specs::Resets::reset_words))]
+fn end_by_reset(mem: &mut [u32; WORDS], spot: Spot)
+    ensures { (mem.new ≡ reset_words mem.old spot.before spot.place) × ToldFits (reset_told mem.old spot.place) }
 {
-    let request = request_at(mem, p);
-    let u = unit_at(mem, p);
+    let request = request_at(mem, spot.place);
+    let unit = unit_at(mem, spot.place);
     let told = ends::reset(request);
-    finish(mem, 2, q, p, told);
-    freeze_if(mem, u, true);
+    finish(mem, ACTIVE, spot, told);
+    freeze_if(mem, unit, true);
 }
 
-// The active request with the smallest ticket ends, where there is one.
-fn end_smallest(mem: &mut [u32; WORDS])
-    ensures { SmallestEnded mem.old mem.new (smallest_spot mem.old) }
+// Where the smallest ticket of the active requests stands.
+#[tactic(auto, unfolding(crate::specs::Resets::smallest_spot))]
+fn smallest_spot(mem: &[u32; WORDS]) -> Option<Spot>
+    ensures { result ≡ smallest_spot mem.now }
 {
-    let ticket = rows::smallest(mem, 2);
-    match rows::seek(mem, 2, ticket) {
-        Spot::Nowhere => {}
-        Spot::At { before, place } => end_by_reset(mem, before, place),
-    }
+    let ticket = rows::smallest(mem, ACTIVE)?;
+    rows::seek(mem, ACTIVE, ticket)
 }
 
-// Bus reset: every active request ends, smallest ticket first.
+// Bus reset: every active request ends, smallest ticket first. (At most as many as there are places, whatever the links say.)
+#[tactic(auto, using(crate::proofs::ResetsAll::reset_over))]
 pub fn reset(mem: &mut [u32; WORDS])
     ensures { (rest : Rest) → Does mem.old mem.new rest rest reset done [] }
 {
-    let mut i: usize = 0;
-    while i < 32 {
-        if 32 <= rows::first_of(mem, 2).0 {
+    for _ in 0..PLACES {
+        let Some(spot) = smallest_spot(mem) else {
             return;
-        }
-        end_smallest(mem);
-        i += 1;
+        };
+        end_by_reset(mem, spot);
     }
 }

@@ -6,12 +6,13 @@ use mathlib.Core.Path.{◌≡◌, refl, sym, ap, ◌∙◌, subst}
 use mathlib.Core.Logic.{◌≢◌}
 use mathlib.Core.List.{List, [], ◌∷◌, ◌++◌, map}
 use mathlib.Core.Bool.{Bool, true, false, cond}
-use borrow.Author.Tests.{lt-ltb, le-ltb}
 use lib.Dec.{ltb, eqb}
+use Rattle.std.specs.Prelude.{Option, None, Some}
 use lib.ListN.{length, get_or, set, length-set, length-append}
 use lib.Seq.{get_or-set_same}
 use Rattle.rows.specs.Words.{next, owner, head, tail, popped, put_last, put_first, cut_after, cut_out}
 use Rattle.rows.specs.Rows.{NotIn, Run, Last, Linked, put, total, row_of, SoundRows}
+use Rattle.rows.proofs.Search.{last_of}
 use Rattle.rows.proofs.Links.{off, pop_linked, push_last, push_first, cut_linked, cut_place, last_within, put_same, put_other}
 use Rattle.rows.proofs.Shown.{total_put, rows_found, shown, map_run, map_snoc}
 
@@ -122,26 +123,36 @@ cut_loose m k q p sz lp = get_or-set_same (set (cond (eqb (tail m k) p) (set m (
     go true = simp length-set sz
     go false = sz
 
--- p stands after a, whose last is q (32 where p is the first), and before b
-pub place_out : (m : List ℕ) (k q p : ℕ) (a b : List ℕ) → SoundRows m → k < 67 → row_of m k ≡ a ++ (p ∷ b) → Last q (32 ∷ a) → Out m (cut_out m k q p) k p (a ++ b)
-unfolding cut_out
-place_out m k q p [] b v lk e la = rw (le-ltb q 32 (omega (arith, la))) (first_out m k p b v lk e)
-place_out m k q p (x ∷ a) b v lk e la = rw (lt-ltb q 32 lq) record {
-  linked = cut_linked m (row_of m) k q p x a b v.linked lk e la;
+-- the last of x and the places a, as the links' laws have it
+last_some : (x : ℕ) (a : List ℕ) → (q : ℕ) × (last_of (Some x) a ≡ Some q) × Last q (x ∷ a)
+last_some x [] = (x, refl, refl)
+last_some x (y ∷ a) = last_some y a
+
+-- p stands after a, whose last is q, and before b
+pub place_out : (m : List ℕ) (k : ℕ) (q : Option ℕ) (p : ℕ) (a b : List ℕ) → SoundRows m → k < 67 → row_of m k ≡ a ++ (p ∷ b) → q ≡ last_of None a → Out m (cut_out m k q p) k p (a ++ b)
+place_out m k q p [] b v lk e la = rw la (first_out m k p b v lk e)
+place_out m k q' p (x ∷ a) b v lk e la = rw (la, s.1) record {
+  linked = cut_linked m (row_of m) k q p x a b v.linked lk e s.2;
   place = c.0;
   loose = cut_loose m k q p v.linked.size c.0;
   less = ap (length {A = ℕ}) e ∙ omega (arith, length-append a (p ∷ b), length-append a b);
   kept = λ i d. cut_data m k q p i lk lq c.0 d;
 }
   where
+    s : (q : ℕ) × (last_of (Some x) a ≡ Some q) × Last q (x ∷ a)
+    s = last_some x a
+
+    q : ℕ
+    q = s.0
+
     r : Run m k (head m k) (x ∷ (a ++ (p ∷ b)))
     r = subst (Run m k (head m k)) e (v.linked.row k lk).run
 
     c : (p < 32) × (owner m p ≡ k) × (p ≢ q) × NotIn p b
-    c = cut_place m k (head m k) q p x a b r la
+    c = cut_place m k (head m k) q p x a b r s.2
 
     lq : q < 32
-    lq = (last_within m k (head m k) q x a (p ∷ b) r la).0
+    lq = (last_within m k (head m k) q x a (p ∷ b) r s.2).0
 
 -- ---- and put into a row
 

@@ -2,7 +2,7 @@
 pub mod Links
 pub mod Walks
 pub mod Shown
-pub mod Carry
 pub mod Search
+pub mod Carry
 pub mod Fresh
 pub mod Everywhere

@@ -6,9 +6,12 @@ use native.Mathlib.Decide.{ℕ_discrete}
 use mathlib.Core.Path.{◌≡◌, refl, sym, ap, ◌∙◌, subst}
 use mathlib.Core.Logic.{by_cases}
 use mathlib.Core.List.{List, [], ◌∷◌, ◌++◌, map}
-use borrow.Author.Tests.{lt-ltb, le-ltb, le-leb, lt-leb}
+use mathlib.Core.Bool.{Bool, true, false, cond}
+use borrow.Author.Tests.{lt-ltb, le-ltb, ltb-true, ltb-false}
+use lib.Dec.{ltb}
 use lib.ListN.{length}
-use Rattle.rows.specs.Words.{next, owner, head, length_from}
+use Rattle.std.specs.Prelude.{None, Some}
+use Rattle.rows.specs.Words.{next, owner, head, as_place}
 use Rattle.rows.specs.Rows.{Run, Row, Linked, put, total, walk, row_of, SoundRows}
 use Rattle.rows.proofs.Links.{put_same, put_other}
 
@@ -80,16 +83,20 @@ module _ (m : List ℕ) (v : SoundRows m) where
       go [] r = absurd (omega (arith, r))
       go (p ∷ l) r = (l, ap (λ (z : ℕ). z ∷ l) (sym r.0))
 
--- how many places the walk counts
-length_run : (fuel : ℕ) (m : List ℕ) (k h : ℕ) (l : List ℕ) → length l ≤ fuel → Run m k h l → length_from fuel m h ≡ length l
-unfolding length_from
-length_run zero m k h [] b r = refl
-length_run zero m k h (p ∷ l) b r = absurd (omega arith)
-length_run (suc fuel) m k h [] b r = rw (le-leb 32 h r)
-length_run (suc fuel) m k h (p ∷ l) b r = rw (r.0, lt-leb 32 p r.1) (let e = length_run fuel m k (next m p) l (omega arith) r.4 in omega arith)
+-- what naming the first place of a row says of it, whatever the words hold
+pub first_some : (m : List ℕ) (k p : ℕ) → as_place (head m k) ≡ Some p → (head m k ≡ p) × (p < 32)
+first_some m k p = go (ltb (head m k) 32) refl
+  where
+    go : (c : Bool) → ltb (head m k) 32 ≡ c → cond c (Some (head m k)) None ≡ Some p → (head m k ≡ p) × (p < 32)
+    go true l e = let z : head m k ≡ p = cc in (z, subst (λ x. x < 32) z (ltb-true (head m k) 32 l))
+    go false l e = let z : ◌≡◌ {A = ℕ} 0 1 = cc in absurd (omega arith)
 
-pub length_row : (m : List ℕ) → SoundRows m → (k : ℕ) → k < 67 → length_from 32 m (head m k) ≡ length (row_of m k)
-length_row m v k h = length_run 32 m k (head m k) (row_of m k) (row_short m v k h) (run_of m v k h)
+pub first_none : (m : List ℕ) (k : ℕ) → as_place (head m k) ≡ None → 32 ≤ head m k
+first_none m k = go (ltb (head m k) 32) refl
+  where
+    go : (c : Bool) → ltb (head m k) 32 ≡ c → cond c (Some (head m k)) None ≡ None → 32 ≤ head m k
+    go true l e = let z : ◌≡◌ {A = ℕ} 0 1 = cc in absurd (omega arith)
+    go false l e = ltb-false (head m k) 32 l
 
 -- ---- what is read at the places of a row
 

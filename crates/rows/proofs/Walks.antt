@@ -1,58 +1,54 @@
--- The walks along a row, a step at a time, as the loops make them: after i steps the rest has 32 - i left. Assumes nothing.
-use Prim.Native.Nat.{ℕ, suc, ◌+◌, ◌-◌, ◌<◌, ◌≤◌, min}
+-- The walk along a row, a place at a time. Assumes nothing.
+use Prim.Native.Nat.{ℕ, zero, suc, ◌-◌, ◌<◌, ◌≤◌}
 use native.Mathlib.Omega.{arith}
-use mathlib.Core.Path.{◌≡◌, ap, ◌∙◌}
+use mathlib.Core.Path.{◌≡◌, refl, ap}
 use mathlib.Core.Logic.{◌≢◌}
-use mathlib.Core.List.{List}
-use borrow.Author.Tests.{le-leb, lt-leb, eq-eqb, ne_eqb}
-use Rattle.rows.specs.Words.{next, ticket_at, the_place, seek_from, smallest_from, length_from}
-use Rattle.rows.specs.declared.Spot.TheVariants.{At, Nowhere}
+use mathlib.Core.List.{List, [], ◌∷◌}
+use mathlib.Core.Bool.{Bool, true, false, cond}
+use lib.Dec.{ltb}
+use borrow.Author.Tests.{le-ltb, lt-ltb, eq-eqb, ne_eqb}
+use lib.ListN.{length}
+use Rattle.rows.specs.Words.{next, head, ticket_at}
+use Rattle.rows.specs.Rows.{walk, row_of}
+use Rattle.rows.specs.Searches.{spot, seek_along}
+use Rattle.std.specs.Prelude.{Option, Some}
 
-left : (i : ℕ) → i < 32 → 32 - i ≡ suc (32 - (i + 1))
-left i h = omega arith
+pub walk_none : (m : List ℕ) (n h : ℕ) → n ≡ 0 → walk n m h ≡ []
+unfolding walk
+walk_none m n h e = ap (λ n. walk n m h) e
 
-none_left : (i : ℕ) → 32 ≤ i → 32 - i ≡ 0
-none_left i h = omega arith
+pub walk_end : (m : List ℕ) (n h : ℕ) → 32 ≤ h → walk n m h ≡ []
+unfolding walk
+walk_end m zero h e = refl
+walk_end m (suc n) h e = rw (le-ltb h 32 e)
 
-module _ (m : List ℕ) (t q h i : ℕ) where
-  pub seek_over : 32 ≤ i → seek_from (32 - i) m t q h ≡ Nowhere
-  unfolding seek_from
-  seek_over l = ap (λ n. seek_from n m t q h) (none_left i l)
+pub walk_more : (m : List ℕ) (n h : ℕ) → n ≢ 0 → h < 32 → walk n m h ≡ h ∷ walk (n - 1) m (next m h)
+unfolding walk
+walk_more m zero h n e = absurd (n refl)
+walk_more m (suc k) h n e = rw (lt-ltb h 32 e) (ap (λ j. h ∷ walk j m (next m h)) (less k))
+  where
+    less : (k : ℕ) → k ≡ suc k - 1
+    less k = omega arith
 
-  pub seek_end : i < 32 → 32 ≤ h → seek_from (32 - i) m t q h ≡ Nowhere
-  unfolding seek_from
-  seek_end l e = ap (λ n. seek_from n m t q h) (left i l) ∙ rw (le-leb 32 h e)
+walk_short : (m : List ℕ) (n h : ℕ) → length (walk n m h) ≤ n
+unfolding walk
+walk_short m zero h = omega arith
+walk_short m (suc n) h = go (ltb h 32) (walk_short m n (next m h))
+  where
+    go : (c : Bool) → length (walk n m (next m h)) ≤ n → length (cond c (h ∷ walk n m (next m h)) []) ≤ suc n
+    go true i = omega arith
+    go false i = omega arith
 
-  pub seek_stop : i < 32 → h < 32 → ticket_at m h ≡ t → seek_from (32 - i) m t q h ≡ At (the_place q) (the_place h)
-  unfolding seek_from
-  seek_stop l e f = ap (λ n. seek_from n m t q h) (left i l) ∙ rw (lt-leb 32 h e, eq-eqb (ticket_at m h) t f)
+pub row_of_short : (m : List ℕ) (k : ℕ) → length (row_of m k) ≤ 32
+unfolding row_of
+row_of_short m k = walk_short m 32 (head m k)
 
-  pub seek_next : i < 32 → h < 32 → ticket_at m h ≢ t → seek_from (32 - i) m t q h ≡ seek_from (32 - (i + 1)) m t h (next m h)
-  unfolding seek_from
-  seek_next l e f = ap (λ n. seek_from n m t q h) (left i l) ∙ rw (lt-leb 32 h e, ne_eqb (ticket_at m h) t f)
+-- ---- a search, a place at a time
 
-module _ (m : List ℕ) (best h i : ℕ) where
-  pub smallest_over : 32 ≤ i → smallest_from (32 - i) m best h ≡ best
-  unfolding smallest_from
-  smallest_over l = ap (λ n. smallest_from n m best h) (none_left i l)
+pub seek_here : (m : List ℕ) (t : ℕ) (q : Option ℕ) (p : ℕ) (l : List ℕ) → ticket_at m p ≡ t → seek_along m t q (p ∷ l) ≡ Some (spot q p)
+unfolding seek_along
+seek_here m t q p l e = rw (eq-eqb (ticket_at m p) t e)
 
-  pub smallest_end : i < 32 → 32 ≤ h → smallest_from (32 - i) m best h ≡ best
-  unfolding smallest_from
-  smallest_end l e = ap (λ n. smallest_from n m best h) (left i l) ∙ rw (le-leb 32 h e)
-
-  pub smallest_next : i < 32 → h < 32 → smallest_from (32 - i) m best h ≡ smallest_from (32 - (i + 1)) m (min best (ticket_at m h)) (next m h)
-  unfolding smallest_from
-  smallest_next l e = ap (λ n. smallest_from n m best h) (left i l) ∙ rw (lt-leb 32 h e)
-
-module _ (m : List ℕ) (h i : ℕ) where
-  pub length_over : 32 ≤ i → length_from (32 - i) m h ≡ 0
-  unfolding length_from
-  length_over l = ap (λ n. length_from n m h) (none_left i l)
-
-  pub length_end : i < 32 → 32 ≤ h → length_from (32 - i) m h ≡ 0
-  unfolding length_from
-  length_end l e = ap (λ n. length_from n m h) (left i l) ∙ rw (le-leb 32 h e)
-
-  pub length_next : i < 32 → h < 32 → length_from (32 - i) m h ≡ suc (length_from (32 - (i + 1)) m (next m h))
-  unfolding length_from
-  length_next l e = ap (λ n. length_from n m h) (left i l) ∙ rw (lt-leb 32 h e)
+pub seek_on : (m : List ℕ) (t : ℕ) (q : Option ℕ) (p : ℕ) (l : List ℕ) → ticket_at m p ≢ t → seek_along m t q (p ∷ l) ≡ seek_along m t (Some p) l
+unfolding seek_along
+seek_on m t q p l e = rw (ne_eqb (ticket_at m p) t e)

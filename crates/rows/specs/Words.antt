@@ -1,9 +1,10 @@
--- The words of linked rows, and what each function makes of them: nested stores and walks along the links, no meaning. Assumes
+-- The words of linked rows, and what each function makes of them: nested stores, no meaning. Assumes
 -- nothing.
-use Rattle.std.specs.Prelude.{ℕ, zero, suc, ◌+◌, ◌%◌, min, cond, List, get_or, set, ltb, leb, eqb}
-use Rattle.rows.specs.declared.Place.{Place}
-use Rattle.rows.specs.declared.Spot.{Spot}
-use Rattle.rows.specs.declared.Spot.TheVariants.{At, Nowhere}
+use Rattle.std.specs.Prelude.{ℕ, ◌+◌, ◌%◌, cond, List, Option, None, Some, get_or, set, ltb, eqb}
+
+-- the place that a word names; from 32 on it names none
+abbrev pub as_place : ℕ → Option ℕ
+as_place n = cond (ltb n 32) (Some n) None
 
 -- the place after p in its row; 32 or more after the last
 abbrev pub next : List ℕ → ℕ → ℕ
@@ -38,34 +39,11 @@ put_first m k p =
 unfoldable pub cut_after : List ℕ → ℕ → ℕ → ℕ → List ℕ
 cut_after m k q p = set (set (cond (eqb (tail m k) p) (set m (131 + k) q) m) q (next m p)) (32 + p) 255
 
--- the same, where q is 32 if p is the first
-unfoldable pub cut_out : List ℕ → ℕ → ℕ → ℕ → List ℕ
-cut_out m k q p = cond (ltb q 32) (cut_after m k q p) (popped m k p)
+-- p is taken out of row k, by the place before it
+abbrev pub cut_out : List ℕ → ℕ → Option ℕ → ℕ → List ℕ
+cut_out m k (Some q) p = cut_after m k q p
+cut_out m k None p = popped m k p
 
--- ---- searches along a row
-
--- the ticket at place p
+-- the ticket at place p, by which a row is searched
 abbrev pub ticket_at : List ℕ → ℕ → ℕ
 ticket_at m p = get_or m (198 + p) 0
-
-abbrev pub the_place : ℕ → Place
-the_place n = record { 0 = n }
-
--- along the links from h, at most `fuel`: the first place with ticket t, and the one before it, which for h is q
-unfoldable pub seek_from : (fuel : ℕ) → List ℕ → (t q h : ℕ) → Spot
-seek_from zero m t q h = Nowhere
-seek_from (suc fuel) m t q h =
-    let more = seek_from fuel m t h (next m h) in
-    cond (leb 32 h) Nowhere (cond (eqb (ticket_at m h) t) (At (the_place q) (the_place h)) more)
-
--- the smallest of `best` and the tickets along the links from h
-unfoldable pub smallest_from : (fuel : ℕ) → List ℕ → (best h : ℕ) → ℕ
-smallest_from zero m best h = best
-smallest_from (suc fuel) m best h =
-    let more = smallest_from fuel m (min best (ticket_at m h)) (next m h) in
-    cond (leb 32 h) best more
-
--- how many places the links lead through from h
-unfoldable pub length_from : (fuel : ℕ) → List ℕ → (h : ℕ) → ℕ
-length_from zero m h = 0
-length_from (suc fuel) m h = let more = suc (length_from fuel m (next m h)) in cond (leb 32 h) 0 more

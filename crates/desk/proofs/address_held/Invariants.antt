@@ -1,10 +1,7 @@
 -- `desk::address_held` meets its contract: after i places, what they hold. Assumes nothing.
-use Rattle.std.proofs.Common.{◌≡◌, ◌-◌, ◌≤◌}
+use Rattle.std.proofs.Common.{◌≡◌}
 use Rattle.desk.specs.TakingIn.{held_to}
 use Rattle.desk.proofs.address_held.Given as goal
 
 abbrev pub invariant-loop-i : goal.invariant-loop-i
-invariant-loop-i l = (l.i ≤ 32) × (l.held ≡ held_to l.i l.mem l.address)
-
-abbrev pub decreases-loop-i : goal.decreases-loop-i
-decreases-loop-i l = 32 - l.i
+invariant-loop-i l = l.held ≡ held_to l.i l.mem l.address

@@ -1,10 +1,7 @@
--- `desk::clear_freezes` meets its contract. After u turns the freezes of the first u units are cleared. Assumes nothing.
-use Rattle.std.proofs.Common.{◌≡◌, ◌-◌, ◌≤◌}
+-- `desk::clear_freezes` meets its contract. After each turn the freezes of the units so far are cleared. Assumes nothing.
+use Rattle.std.proofs.Common.{◌≡◌}
 use Rattle.desk.specs.Begins.{cleared}
 use Rattle.desk.proofs.clear_freezes.Given as goal
 
-abbrev pub invariant-loop-u : goal.invariant-loop-u
-invariant-loop-u l = (l.u ≤ 64) × (l.mem ≡ cleared l.u l.initial.mem)
-
-abbrev pub decreases-loop-u : goal.decreases-loop-u
-decreases-loop-u l = 64 - l.u
+abbrev pub invariant-loop-unit : goal.invariant-loop-unit
+invariant-loop-unit l = l.mem ≡ cleared l.unit l.initial.mem

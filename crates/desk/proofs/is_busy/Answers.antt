@@ -1,25 +1,15 @@
--- `desk::is_busy` meets its contract. The whole walk equals the rest of it. Assumes nothing.
-use Rattle.std.proofs.Common.{sym, ◌∙◌, arith}
-use Rattle.desk.proofs.Eligible.{busy_over, busy_end, busy_stop, busy_next}
+-- `desk::is_busy` meets its contract. Assumes nothing.
+use Rattle.std.proofs.Common.{rules, tests, ◌==◌}
+use Rattle.std.proofs.lemmas.Iterator.Search.{any_from_yields_List}
+use Rattle.std.proofs.lemmas.Iterator.Consumers.{YieldsList-from_first}
+use Rattle.rows.specs.Rows.{row_of}
+use Rattle.rows.specs.Searches.{places_left}
+use Rattle.desk.specs.Words.{unit_at, has_active}
 use Rattle.desk.proofs.is_busy.Goals as goal
 
-pub loop-i-init : goal.loop-i-init
-loop-i-init c = (omega arith, rw c.first_of-h.ensures)
-
-pub returns-then-h-ge32 : goal.returns-then-h-ge32
-returns-then-h-ge32 c = sym (c.loop-i.invariant.1 ∙ busy_end _ _ _ _ c.loop-i-test.true c.if-h-ge32.true)
-
-pub returns-then-wide-u : goal.returns-then-wide-u
-returns-then-wide-u c = sym (c.loop-i.invariant.1
-    ∙ busy_stop _ _ _ _ c.loop-i-test.true c.if-h-ge32.false (sym c.wide.ensures ∙ c.if-wide-u.true))
-
-pub loop-i-preserved : goal.loop-i-preserved
-loop-i-preserved c = (
-  omega arith,
-  rw c.next_of-h.ensures
-      (c.loop-i.invariant.1
-      ∙ busy_next _ _ _ _ c.loop-i-test.true c.if-h-ge32.false (λ z. c.if-wide-u.false (c.wide.ensures ∙ z))),
-)
-
 pub returns : goal.returns
-returns c = sym (c.loop-i.invariant.1 ∙ busy_over _ _ _ _ (omega arith))
+unfolding has_active
+returns c =
+    let m = c.args.mem.now in
+    any_from_yields_List (λ p. unit_at m p == c.args.unit) _ _ _ c.any.ensures.ran (YieldsList-from_first (λ x. x) places_left (row_of m 2) c.places_of.ensures)
+    (λ x b q k. search (rules, tests))

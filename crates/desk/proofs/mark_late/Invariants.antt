@@ -1,11 +1,9 @@
--- `desk::mark_late` meets its contract. The whole walk equals the rest of it. Assumes nothing.
-use Rattle.std.proofs.Common.{◌≡◌, ◌-◌, ◌≤◌}
-use Rattle.rows.specs.Words.{head}
-use Rattle.desk.specs.Ticking.{marked_from}
+-- `desk::mark_late` meets its contract. The whole walk marks what the rest of it does. Assumes nothing.
+use Rattle.std.proofs.Common.{◌≡◌, ◌-◌}
+use Rattle.rows.specs.Rows.{row_of}
+use Rattle.desk.specs.Ticking.{all_marked}
+use Rattle.desk.proofs.Ticks.{places_from}
 use Rattle.desk.proofs.mark_late.Given as goal
 
-abbrev pub invariant-loop-i : goal.invariant-loop-i
-invariant-loop-i l = (l.i ≤ 32) × (marked_from 32 l.initial.mem l.clock (head l.initial.mem 2) ≡ marked_from (32 - l.i) l.mem l.clock l.h)
-
-abbrev pub decreases-loop-i : goal.decreases-loop-i
-decreases-loop-i l = 32 - l.i
+abbrev pub invariant-loop : goal.invariant-loop
+invariant-loop l = all_marked l.initial.mem l.clock (row_of l.initial.mem 2) ≡ all_marked l.mem l.clock (places_from (32 - l.counter) l.mem l.at)
