@@ -1,5 +1,19 @@
 -- `desk_main::as_expected` meets its contract. Assumes nothing.
+use mathlib.Core.Path.{◌≡◌, refl}
+use lib.IntN.{ℤ, pos, negsuc}
+use mir.Syntax.{w32}
+use mir.Val.{of_z}
+use Rattle.std.proofs.Common.{arith}
+use Rattle.board.specs.Block.{word}
 use Rattle.desk_main.proofs.as_expected.Goals as goal
 
-pub returns : goal.returns
-returns c = rw (c.has_ticket-taken.ensures, c.has_ticket.ensures, c.has_ticket-ended.ensures, c.has_ticket-first.ensures, c.has_ticket-2.ensures, c.is_short_by_12.ensures)
+same_word : (z : ℤ) → of_z w32 z ≡ word z
+unfolding word
+same_word (pos n) = refl
+same_word (negsuc n) = refl
+
+pub returns-in-Ok : goal.returns-in-Ok
+returns-in-Ok c = grind (arith, same_word)
+
+pub returns-in_default : goal.returns-in_default
+returns-in_default c = grind (arith, same_word)
