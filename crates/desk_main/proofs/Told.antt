@@ -1,7 +1,6 @@
 -- The story by the definitions, and so by whatever keeps the desk's promises. Assumes nothing.
 use Prim.Native.Nat.{ℕ, zero, suc}
 use mathlib.Core.Path.{◌≡◌, refl, ap, ◌∙◌}
-use mathlib.Core.Bool.{true}
 use mathlib.Core.List.{List, [], ◌∷◌}
 use lib.ListN.{set}
 use Rattle.board.specs.declared.Ticket.{Ticket}

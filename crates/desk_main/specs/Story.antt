@@ -41,7 +41,7 @@ short_read_seen = record {
 abbrev pub is_short_by_12 : Told → Bool
 is_short_by_12 x = x.status =? 0x01 && word x.residual =? 12
 
--- nothing is refused, ticket 1 at each stage, 10 units looked at, and what the block is told
+-- nothing is refused, ticket 1 at each stage, 10 units looked at, and the block is told of 12 missing bytes
 abbrev pub as_expected : Seen → Bool
 as_expected s =
     elim s.taken [ Ok t ↦ t.0 =? 1 | Err why ↦ false ]

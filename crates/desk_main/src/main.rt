@@ -2,7 +2,7 @@
 // that every answer is the expected one is proved of `story`, from the desk's promises.
 #![tactic(auto)]
 
-ghost use Rattle.std.specs.Prelude.{◌≡◌, Ok, replicate};
+ghost use Rattle.std.specs.Prelude.{◌≡◌, Ok};
 ghost use Rattle.desk_main.specs.Story.{short_read, short_read_handed, short_read_seen, as_expected};
 
 use board::{
@@ -24,10 +24,11 @@ struct Seen {
 // ---- the story
 
 // The block of a read: address 1000h, target 1, LUN 1, data in, 512 bytes of it, a CDB of 6 bytes, 30 seconds.
-fn write_read(block: &mut [u8; 88])
-    requires { block.old ≡ replicate 88 0 }
-    ensures { block.new ≡ short_read }
+#[tactic(auto, unfolding(crate::specs::Story::short_read))]
+fn a_read() -> [u8; 88]
+    ensures { result ≡ short_read }
 {
+    let mut block = [0u8; 88];
     block[1] = 0x10;
     block[4] = 88;
     block[6] = 0x01;
@@ -39,6 +40,7 @@ fn write_read(block: &mut [u8; 88])
     block[60] = 0x08;
     block[64] = 1;
     block[72] = 30;
+    block
 }
 
 // Taken in, sent, 500 bytes moved with SCSI status 00h, looked at, handed back. (That something is sent is proved, so the adapter has a
@@ -71,6 +73,7 @@ fn play(mem: &mut [u32; WORDS], block: &mut [u8]) -> Seen
 // ---- holding it against what is expected
 
 // Ticket 1 at each stage, 10 units looked at (9 is the tenth after 63), status 01h, and 12 of the 512 bytes missing.
+#[tactic(auto, using(block::proofs::Numbers::word_is))]
 fn as_expected(seen: Seen) -> bool
     ensures { result ≡ as_expected seen }
 {
@@ -79,14 +82,24 @@ fn as_expected(seen: Seen) -> bool
         Seen {
             taken: Ok(Ticket(1)),
             sent: Sending {
-                sent: Some(Sent { ticket: Ticket(1), .. }),
+                sent: Some(Sent {
+                    ticket: Ticket(1),
+                    ..
+                }),
                 looked: 10,
             },
             ended: Ok(()),
-            first: Some(First { ticket: Ticket(1), .. }),
+            first: Some(First {
+                ticket: Ticket(1),
+                ..
+            }),
             handed: Ok(Handed {
                 ticket: Ticket(1),
-                told: Told { status: 0x01, residual: 12, .. },
+                told: Told {
+                    status: 0x01,
+                    residual: 12,
+                    ..
+                },
             }),
         }
     )
@@ -96,15 +109,17 @@ fn as_expected(seen: Seen) -> bool
 struct Unexpected;
 
 // Whatever the words were, every answer comes out as expected.
+#[tactic(auto, unfolding(board::specs::Block::word))]
 fn story(mem: &mut [u32; WORDS], block: &mut [u8]) -> Result<Seen, Unexpected>
     requires { block.old ≡ short_read }
     ensures { (result ≡ Ok short_read_seen) × (block.new ≡ short_read_handed) }
 {
     let seen = play(mem, block);
-    if !as_expected(seen) {
-        return Err(Unexpected);
+    if as_expected(seen) {
+        Ok(seen)
+    } else {
+        Err(Unexpected)
     }
-    Ok(seen)
 }
 
 // ---- the program
@@ -126,8 +141,7 @@ fn say(rt: &impl Print, seen: Seen) -> io::Result<()>
 // A desk in the program's own memory, and one read on it. (The last line says whether all was as expected.)
 fn main(rt: HostRuntime) -> io::Result<()> {
     let mut mem = [0u32; WORDS];
-    let mut block = [0u8; 88];
-    write_read(&mut block);
+    let mut block = a_read();
     match story(&mut mem, &mut block) {
         Ok(seen) => {
             say(&rt, seen)?;
