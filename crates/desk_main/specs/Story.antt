@@ -1,12 +1,9 @@
 -- A short read: its block, and what the host sees of it. Assumes nothing.
-use Rattle.std.specs.Prelude.{ℕ, Bool, true, false, not, ◌&&◌, List, replicate, set, pos}
-use Rattle.board.specs.declared.Ticket.{Ticket}
+use Rattle.std.specs.Prelude.{ℕ, Bool, true, false, ◌&&◌, List, replicate, set, pos, Some, None, Ok, Err}
 use Rattle.board.specs.declared.Told.{Told}
 use Rattle.board.specs.Plain.{◌=?◌}
 use Rattle.board.specs.Block.{word}
-use Rattle.board.specs.Board.{the_ticket}
-use Rattle.board.specs.Answers.{Answer, refused, taken, sent, nothing, done, before, time, first, empty, handed}
-use Rattle.desk_main.specs.declared.Sight.{Sight}
+use Rattle.board.specs.Board.{the_ticket, the_unit}
 use Rattle.desk_main.specs.declared.Seen.{Seen}
 
 -- ---- the block
@@ -19,56 +16,36 @@ short_read = set (set (set (set (set (set (set (set (set (set (set (replicate 88
 unfoldable pub short_read_handed : List ℕ
 short_read_handed = set (set short_read 7 0x01) 56 12
 
--- ---- what the host sees of an answer
-
--- an answer that tells nothing of an end
-abbrev pub in_sight : (refused : Bool) → Ticket → (looked : ℕ) → Sight
-in_sight r t n = record { refused = r; ticket = t; looked = n; told = record { status = 0; scsi = 0; unsensed = 0; residual = pos 0 } }
-
--- an answer's numbers, 0 where it has none
-abbrev pub sight : Answer → Sight
-sight (refused number) = in_sight true (the_ticket 0) 0
-sight (taken t) = in_sight false t 0
-sight (sent t u cdb n) = in_sight false t n
-sight (nothing n) = in_sight false (the_ticket 0) n
-sight done = in_sight false (the_ticket 0) 0
-sight (before number) = in_sight false (the_ticket 0) 0
-sight (time clock) = in_sight false (the_ticket 0) 0
-sight (first t address callback wanted) = in_sight false t 0
-sight empty = in_sight false (the_ticket 0) 0
-sight (handed t x) = record { refused = false; ticket = t; looked = 0; told = x }
-
--- ---- of the whole story
+-- ---- what the host sees
 
 -- status 01h, SCSI status 00h, no sense, and 512 - 500 bytes missing
 abbrev pub short_read_told : Told
 short_read_told = record { status = 0x01; scsi = 0x00; unsensed = 0; residual = pos 12 }
 
--- ticket 1 at each stage; unit 9 is the tenth after the mark 63
+-- each call's answer: ticket 1 at each stage; unit 9 is the tenth after the mark 63
 abbrev pub short_read_seen : Seen
 short_read_seen = record {
-  taken = in_sight false (the_ticket 1) 0;
-  sent = in_sight false (the_ticket 1) 10;
-  ended = in_sight false (the_ticket 0) 0;
-  first = in_sight false (the_ticket 1) 0;
-  handed = record { refused = false; ticket = the_ticket 1; looked = 0; told = short_read_told };
+  taken = Ok (the_ticket 1);
+  sent = record {
+    sent = Some (record { ticket = the_ticket 1; unit = the_unit 9; cdb = record { first = 0x08; second = 1; third = 0 } });
+    looked = 10;
+  };
+  ended = Ok tt;
+  first = Some (record { ticket = the_ticket 1; address = 0x1000; callback = 0; wanted = true });
+  handed = Ok (record { ticket = the_ticket 1; told = short_read_told });
 }
 
 -- ---- what the program expects
-
--- the answer is no refusal, and has this ticket
-abbrev pub has_ticket : Sight → ℕ → Bool
-has_ticket a t = not a.refused && a.ticket.0 =? t
 
 -- status 01h, and 12 bytes are missing
 abbrev pub is_short_by_12 : Told → Bool
 is_short_by_12 x = x.status =? 0x01 && word x.residual =? 12
 
--- each answer's numbers
+-- nothing is refused, ticket 1 at each stage, 10 units looked at, and the block is told of 12 missing bytes
 abbrev pub as_expected : Seen → Bool
 as_expected s =
-    has_ticket s.taken 1
-    && ((has_ticket s.sent 1 && s.sent.looked =? 10)
-    && (has_ticket s.ended 0
-    && (has_ticket s.first 1
-    && (has_ticket s.handed 1 && is_short_by_12 s.handed.told))))
+    elim s.taken [ Ok t ↦ t.0 =? 1 | Err why ↦ false ]
+    && (elim s.sent.sent [ Some x ↦ x.ticket.0 =? 1 | None ↦ false ] && s.sent.looked =? 10
+    && (elim s.ended [ Ok done ↦ true | Err why ↦ false ]
+    && (elim s.first [ Some x ↦ x.ticket.0 =? 1 | None ↦ false ]
+    && elim s.handed [ Ok x ↦ x.ticket.0 =? 1 && is_short_by_12 x.told | Err why ↦ false ])))

@@ -2,122 +2,33 @@
 // that every answer is the expected one is proved of `story`, from the desk's promises.
 #![tactic(auto)]
 
-ghost use Rattle.std.specs.Prelude.{◌≡◌, true, replicate};
-ghost use Rattle.board.specs.Answers.{handing_back_says, looking_says, reporting_says, sending_says, taking_in_says};
-ghost use Rattle.desk_main.specs.Story.{short_read, short_read_handed, short_read_seen, in_sight, sight, has_ticket, is_short_by_12, as_expected};
+ghost use Rattle.std.specs.Prelude.{◌≡◌, Ok};
+ghost use Rattle.desk_main.specs.Story.{short_read, short_read_handed, short_read_seen, as_expected};
 
-use board::{Event, HandingBack, Looking, Reporting, Sending, Sense, TakingIn, Ticket, Told, Unit};
+use board::{
+    Event, First, Handed, NotHanded, Refusal, Sending, Sense, Sent, Ticket, Told, Unit, Unreported,
+};
 use rows::WORDS;
 use std::io;
 
-// What the host sees in an answer: whether it is a refusal, and its numbers, 0 where it has none.
-#[derive(Clone, Copy)]
-struct Sight {
-    refused: bool,
-    ticket: Ticket,
-    looked: u8,
-    told: Told,
-}
-
-// What the host sees of the whole story, call by call.
+// What the host sees of the whole story: each call's answer.
 #[derive(Clone, Copy)]
 struct Seen {
-    taken: Sight,
-    sent: Sight,
-    ended: Sight,
-    first: Sight,
-    handed: Sight,
-}
-
-// ---- reading the answers
-
-// An answer that tells nothing of an end.
-fn in_sight(refused: bool, ticket: Ticket, looked: u8) -> Sight
-    ensures { result ≡ in_sight refused ticket looked }
-{
-    let told = Told {
-        status: 0,
-        scsi: 0,
-        unsensed: 0,
-        residual: 0,
-    };
-    Sight {
-        refused,
-        ticket,
-        looked,
-        told,
-    }
-}
-
-fn see_taking_in(a: TakingIn) -> Sight
-    ensures { result ≡ sight (taking_in_says a) }
-{
-    match a {
-        TakingIn::Taken(t) => in_sight(false, t, 0),
-        TakingIn::Refused(why) => in_sight(true, Ticket(0), 0),
-    }
-}
-
-fn see_sending(a: Sending) -> Sight
-    ensures { result ≡ sight (sending_says a) }
-{
-    match a {
-        Sending::Sent {
-            ticket,
-            unit,
-            cdb,
-            looked,
-        } => in_sight(false, ticket, looked),
-        Sending::Nothing { looked } => in_sight(false, Ticket(0), looked),
-    }
-}
-
-fn see_reporting(a: Reporting) -> Sight
-    ensures { result ≡ sight (reporting_says a) }
-{
-    match a {
-        Reporting::Ended => in_sight(false, Ticket(0), 0),
-        Reporting::NotActive => in_sight(true, Ticket(0), 0),
-        Reporting::Implausible => in_sight(true, Ticket(0), 0),
-    }
-}
-
-fn see_looking(a: Looking) -> Sight
-    ensures { result ≡ sight (looking_says a) }
-{
-    match a {
-        Looking::First {
-            ticket,
-            address,
-            callback,
-            wanted,
-        } => in_sight(false, ticket, 0),
-        Looking::Empty => in_sight(false, Ticket(0), 0),
-    }
-}
-
-fn see_handing_back(a: HandingBack) -> Sight
-    ensures { result ≡ sight (handing_back_says a) }
-{
-    match a {
-        HandingBack::Handed { ticket, told } => Sight {
-            refused: false,
-            ticket,
-            looked: 0,
-            told,
-        },
-        HandingBack::Empty => in_sight(true, Ticket(0), 0),
-        HandingBack::NotItsBlock => in_sight(true, Ticket(0), 0),
-    }
+    taken: Result<Ticket, Refusal>,
+    sent: Sending,
+    ended: Result<(), Unreported>,
+    first: Option<First>,
+    handed: Result<Handed, NotHanded>,
 }
 
 // ---- the story
 
 // The block of a read: address 1000h, target 1, LUN 1, data in, 512 bytes of it, a CDB of 6 bytes, 30 seconds.
-fn write_read(block: &mut [u8; 88])
-    requires { block.old ≡ replicate 88 0 }
-    ensures { block.new ≡ short_read }
+#[tactic(auto, unfolding(crate::specs::Story::short_read))]
+fn a_read() -> [u8; 88]
+    ensures { result ≡ short_read }
 {
+    let mut block = [0u8; 88];
     block[1] = 0x10;
     block[4] = 88;
     block[6] = 0x01;
@@ -129,28 +40,27 @@ fn write_read(block: &mut [u8; 88])
     block[60] = 0x08;
     block[64] = 1;
     block[72] = 30;
+    block
 }
 
-// Taken in, sent, 500 bytes moved with SCSI status 00h, looked at, handed back.
+// Taken in, sent, 500 bytes moved with SCSI status 00h, looked at, handed back. (That something is sent is proved, so the adapter has a
+// ticket to report on.)
 fn play(mem: &mut [u32; WORDS], block: &mut [u8]) -> Seen
     requires { block.old ≡ short_read }
     ensures { (result ≡ short_read_seen) × (block.new ≡ short_read_handed) }
 {
+    let mut given = 0;
     desk::fresh(mem);
-    let took = desk::take_in(mem, block, 0);
-    let answer = took.answer;
-    let taken = see_taking_in(answer);
-    let went = desk::send(mem, 0, Unit(63));
-    let answer = went.answer;
-    let sent = see_sending(answer);
+    let taken = desk::take_in(mem, block, &mut given);
+    let sent = desk::send(mem, 0, Unit(63)).answer;
+    let ticket = sent.sent.unwrap().ticket;
     let complete = Event::Complete {
         status: 0x00,
         sense: Sense::None,
     };
-    let ticket = sent.ticket;
-    let ended = see_reporting(desk::report(mem, ticket, complete, 500));
-    let first = see_looking(desk::look(mem));
-    let handed = see_handing_back(desk::hand_back(mem, block));
+    let ended = desk::report(mem, ticket, complete, 500);
+    let first = desk::look(mem);
+    let handed = desk::hand_back(mem, block);
     Seen {
         taken,
         sent,
@@ -162,58 +72,65 @@ fn play(mem: &mut [u32; WORDS], block: &mut [u8]) -> Seen
 
 // ---- holding it against what is expected
 
-// The answer is no refusal, and has this ticket.
-fn has_ticket(a: Sight, ticket: u32) -> bool
-    ensures { result ≡ has_ticket a ticket }
+// Ticket 1 at each stage, 10 units looked at (9 is the tenth after 63), status 01h, and 12 of the 512 bytes missing.
+#[tactic(auto, using(block::proofs::Numbers::word_is))]
+fn as_expected(seen: Seen) -> bool
+    ensures { result ≡ as_expected seen }
 {
-    !a.refused & (a.ticket.0 == ticket)
+    matches!(
+        seen,
+        Seen {
+            taken: Ok(Ticket(1)),
+            sent: Sending {
+                sent: Some(Sent {
+                    ticket: Ticket(1),
+                    ..
+                }),
+                looked: 10,
+            },
+            ended: Ok(()),
+            first: Some(First {
+                ticket: Ticket(1),
+                ..
+            }),
+            handed: Ok(Handed {
+                ticket: Ticket(1),
+                told: Told {
+                    status: 0x01,
+                    residual: 12,
+                    ..
+                },
+            }),
+        }
+    )
 }
 
-// Status 01h, and 12 bytes are missing.
-fn is_short_by_12(told: Told) -> bool
-    ensures { result ≡ is_short_by_12 told }
-{
-    (told.status == 0x01) & (told.residual == 12)
-}
-
-// Ticket 1 at each stage, 10 units looked at (9 is the tenth after 63), and 12 of the 512 bytes missing.
-fn as_expected(s: Seen) -> bool
-    ensures { result ≡ as_expected s }
-{
-    let taken = has_ticket(s.taken, 1);
-    let sent = has_ticket(s.sent, 1) & (s.sent.looked == 10);
-    let ended = has_ticket(s.ended, 0);
-    let first = has_ticket(s.first, 1);
-    let handed = has_ticket(s.handed, 1) & is_short_by_12(s.handed.told);
-    taken & (sent & (ended & (first & handed)))
-}
-
-// What was seen, and whether it is what is expected.
-#[derive(Clone, Copy)]
-struct Outcome {
-    seen: Seen,
-    right: bool,
-}
+// What was seen is not what is expected.
+struct Unexpected;
 
 // Whatever the words were, every answer comes out as expected.
-fn story(mem: &mut [u32; WORDS], block: &mut [u8]) -> Outcome
+#[tactic(auto, unfolding(board::specs::Block::word))]
+fn story(mem: &mut [u32; WORDS], block: &mut [u8]) -> Result<Seen, Unexpected>
     requires { block.old ≡ short_read }
-    ensures { (result.right ≡ true) × (result.seen ≡ short_read_seen) × (block.new ≡ short_read_handed) }
+    ensures { (result ≡ Ok short_read_seen) × (block.new ≡ short_read_handed) }
 {
     let seen = play(mem, block);
-    Outcome {
-        seen,
-        right: as_expected(seen),
+    if as_expected(seen) {
+        Ok(seen)
+    } else {
+        Err(Unexpected)
     }
 }
 
 // ---- the program
 
-// One line of what was seen.
-fn say(rt: &impl Print, s: Seen) -> io::Result<()> {
-    let ticket = s.taken.ticket.0;
-    let looked = s.sent.looked;
-    let told = s.handed.told;
+// One line of what was seen. (That a ticket was given and a request handed back is proved of what comes here.)
+fn say(rt: &impl Print, seen: Seen) -> io::Result<()>
+    requires { seen ≡ short_read_seen }
+{
+    let ticket = seen.taken.unwrap().0;
+    let looked = seen.sent.looked;
+    let told = seen.handed.unwrap().told;
     let status = told.status;
     let residual = block::word_of(told.residual);
     println!(rt;
@@ -224,12 +141,12 @@ fn say(rt: &impl Print, s: Seen) -> io::Result<()> {
 // A desk in the program's own memory, and one read on it. (The last line says whether all was as expected.)
 fn main(rt: HostRuntime) -> io::Result<()> {
     let mut mem = [0u32; WORDS];
-    let mut block = [0u8; 88];
-    write_read(&mut block);
-    let outcome = story(&mut mem, &mut block);
-    say(&rt, outcome.seen)?;
-    if outcome.right {
-        return rt.println("as expected");
+    let mut block = a_read();
+    match story(&mut mem, &mut block) {
+        Ok(seen) => {
+            say(&rt, seen)?;
+            rt.println("as expected")
+        }
+        Err(Unexpected) => rt.println("NOT as expected"),
     }
-    rt.println("NOT as expected")
 }

@@ -1,22 +1,17 @@
 -- `desk_main::play` meets its contract: the promises of the calls, one after the other. Assumes nothing.
-use mathlib.Core.Path.{ap, ◌∙◌}
-use Rattle.desk_main.proofs.Told.{told}
+use Rattle.std.specs.Option.{is_some}
+use mathlib.Core.Path.{sym, ap}
+use Rattle.board.specs.Answers.{sending_says}
+use Rattle.board.proofs.Answers.{one_sending}
+use Rattle.desk_main.specs.Story.{short_read_seen}
+use Rattle.desk_main.proofs.Told.{one_seen, sends_1, told, ticket_in}
 use Rattle.desk_main.proofs.play.Goals as goal
 
-pub shape_of-block : goal.shape_of-block
-shape_of-block c = c.hand_back.auto.block ∙ c.take_in-took.auto.block
+pub unwrap-requires : goal.unwrap-requires
+unwrap-requires c = let k = one_sending c.send.result.answer short_read_seen.sent (sends_1 c.fresh.ensures c.take_in-taken.ensures c.send.ensures.does c.requires) in ap (λ x. is_some x.sent) k
 
 pub returns : goal.returns
-returns c = let t =
-    told c.fresh.ensures c.take_in-took.ensures c.send-went.ensures.does c.report.ensures c.look.ensures c.hand_back.ensures
-    c.requires
-    (ap (λ x. x.ticket) c.see_sending-sent.ensures) in (
-      (λ i. record {
-        taken = c.see_taking_in-taken.ensures i;
-        sent = c.see_sending-sent.ensures i;
-        ended = c.see_reporting-ended.ensures i;
-        first = c.see_looking-first.ensures i;
-        handed = c.see_handing_back-handed.ensures i;
-      }) ∙ t.0,
-      t.1,
-    )
+returns c =
+    let ticket = sym (ap (λ x. ticket_in (sending_says (record { sent = x; looked = c.send.result.answer.looked }))) c.unwrap.ensures) in
+    let t = told c.fresh.ensures c.take_in-taken.ensures c.send.ensures.does c.requires c.report-ended.ensures c.look-first.ensures c.hand_back-handed.ensures ticket in
+    (one_seen _ _ t.0, t.1)
