@@ -63,7 +63,7 @@ pub fn sending(a: Sending, text: &mut Text)
     text.push(b'\n');
 }
 
-// E
+// E. (From here on some differ in the letter alone: each is `line` with what it promises.)
 pub fn reporting(a: Result<(), Unreported>, text: &mut Text)
     ensures { text.new ≡ print letter.E (reporting_says a) }
 {

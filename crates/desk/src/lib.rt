@@ -244,7 +244,7 @@ fn set_freeze(mem: &mut [u32; WORDS], u: Unit, x: u32) -> Result<bool, NoSuchUni
     Ok(was != 0)
 }
 
-// Freeze a unit.
+// Freeze a unit. (Freeze and release are two calls of document 01, over one body.)
 pub fn freeze(mem: &mut [u32; WORDS], u: Unit) -> Result<bool, NoSuchUnit>
     ensures { Freezes mem.old mem.new u (freeze u) (freezing_says result) }
 {

@@ -17,7 +17,7 @@ pub const OUTPUT: usize = 1048576;
 // ---- whole lines
 
 // One line, answered behind the first `filled` bytes of the output: all 64 bytes of the text, of which the caller counts those that
-// matter. How many these are.
+// matter. How many these are. (The number stands beside the output: `whole_lines` alone has both, and a struct for them would be no plainer.)
 fn append(line: &[u8], replay: &mut Replay, out: &mut [u8], filled: usize) -> usize
     requires { filled + 64 ≤ length out.old }
     ensures { Appends replay.old replay.new line.now out.old out.new filled result }
@@ -35,7 +35,7 @@ struct Lines {
     filled: usize,
 }
 
-// Every whole line of s, answered from the output's start on.
+// Every whole line of s, answered from the output's start on. (No `split`: it doesn't tell whether its last part has ended.)
 fn whole_lines(s: &[u8], replay: &mut Replay, out: &mut [u8]) -> Lines
     requires { (length s.now ≤ 16384) × (64 * length s.now ≤ length out.old) }
     ensures so_far { SoFar replay.old replay.new s.now result.at (take result.filled out.new) }
@@ -73,7 +73,8 @@ pub struct Turn {
 }
 
 // A piece of the log: the first `end` bytes of the buffer, which begin with what stood over before. Their whole lines are answered at
-// the start of `out`, and what stands over then is at the front of the buffer.
+// the start of `out`, and what stands over then is at the front of the buffer. (A number beside the buffer: a part of it could be of any
+// length, and would have to be asked to fit the output.)
 pub fn feed(buf: &mut [u8; INPUT], end: usize, replay: &mut Replay, out: &mut [u8; OUTPUT]) -> Turn
     ensures feeds { Feeds replay.old replay.new (take end buf.old) (take result.over buf.new) (take result.filled out.new) }
     ensures over_bound { (result.over ≤ 401) × (result.filled ≤ 1048576) }

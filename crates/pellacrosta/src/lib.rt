@@ -23,7 +23,8 @@ use board::{
 use rows::WORDS;
 use wheel::Wheel;
 
-// ---- the records that C is given. Each begins with the number of a refusal, or 0; what doesn't apply is 0 or false.
+// ---- the records that C is given, which has neither `Option` nor `Result`. Each begins with the number of a refusal, or 0; what doesn't
+// apply is 0 or false.
 
 // Taking in: the ticket.
 #[repr(C)]
@@ -280,7 +281,8 @@ fn as_handed(a: Result<board::Handed, NotHanded>) -> Handed
     }
 }
 
-// ---- the calls, in document 01's order. Each looks at the count of words first.
+// ---- the calls, in document 01's order. Each looks at the count of words first. (Each is a symbol of C's, so those that differ in a name
+// alone stay apart.)
 
 // Fewer words are lent than a desk has: the library's own refusal.
 const TOO_FEW_WORDS: u32 = 201;

@@ -1,4 +1,5 @@
-// The library's calls as C symbols: each calls the function of `pellacrosta` that bears its name, and promises what that promises.
+// The library's calls as C symbols: each calls the function of `pellacrosta` that bears its name, and promises what that promises. (C links
+// to eleven names, so those that differ in a name alone stay apart.)
 #![tactic(auto)]
 
 ghost use Rattle.std.specs.Prelude.{◌≡◌};
