@@ -1,6 +1,6 @@
 -- Handing back, on the words. Assumes nothing.
 use Rattle.std.specs.Prelude.{None, Some, if◌then◌else◌}
-use Rattle.std.proofs.Common.{◌≡◌, ℕ, ◌+◌, ◌<◌, Bool, true, false, not, ◌≢◌, List, map, sym, refl, ap, ◌∙◌, subst, arith}
+use Rattle.std.proofs.Common.{◌≡◌, ℕ, ◌+◌, ◌<◌, Bool, true, false, ◌≢◌, List, map, sym, refl, ap, ◌∙◌, subst, arith}
 use Rattle.board.specs.declared.Finished.{Finished}
 use Rattle.board.specs.declared.Told.{Told}
 use Rattle.board.specs.Board.{with_finished}
@@ -87,18 +87,3 @@ hand_back_first m s p h o = record {
   unwritten = λ n z. let y : ◌≡◌ {A = ℕ} 0 1 = cc in absurd (omega arith);
   written = λ t x z. let y : (finished_at m p).told ≡ x = cc in ap (λ (w : Told). with_told w s) y;
 }
-
--- what the answer of the leaf says of the block
-pub another : {r n : Bool} → r ≡ not n → not r ≡ true → n ≡ true
-another {r} {n} e k = go n (ap not (sym e) ∙ k)
-  where
-    go : (c : Bool) → not (not c) ≡ true → c ≡ true
-    go true z = refl
-    go false z = z
-
-pub its_own : {r n : Bool} → r ≡ not n → not r ≡ false → n ≡ false
-its_own {r} {n} e k = go n (ap not (sym e) ∙ k)
-  where
-    go : (c : Bool) → not (not c) ≡ false → c ≡ false
-    go true z = z
-    go false z = refl

@@ -33,14 +33,16 @@ const UNITS: usize = 64;
 
 // ---- rows and units
 
+// The free places.
 const FREE: Row = Row(0);
 
+// The finished line.
 const FINISHED: Row = Row(1);
 
-// In the order of sending.
+// The active requests, in the order of sending.
 const ACTIVE: Row = Row(2);
 
-// A unit that there is, 0 to 63: a Unit may be any byte. To a clause it is its number.
+// A unit that there is, 0 to 63 (a Unit may be any byte). To a clause it is its number.
 #[derive(Clone, Copy)]
 struct KnownUnit(usize);
 
@@ -134,7 +136,8 @@ pub fn fresh(mem: &mut [u32; WORDS])
 
 // ---- taking in
 
-// A live request has this address: a look along the plane of addresses, free places aside.
+// A live request has this address: a look along the plane of addresses, free places aside. (At every one of them, without a branch: the
+// compiler then compares several at a time.)
 #[tactic(auto, using(crate::proofs::Held::held_none, crate::proofs::Held::held_next))]
 fn address_held(mem: &[u32; WORDS], address: u32) -> bool
     ensures { result ≡ held_to 32 mem.now address }
@@ -464,7 +467,8 @@ fn report_at(mem: &mut [u32; WORDS], spot: Spot, what: Event, moved: u32) -> Res
     Ok(())
 }
 
-// The adapter reports an event on a ticket, with the bytes moved.
+// The adapter reports an event on a ticket, with the bytes moved. (The spot is taken apart, since the check does not carry it whole past
+// the `?`.)
 #[tactic(auto, using(crate::proofs::Reports::report_none, crate::proofs::Reports::report_some))]
 pub fn report(
     mem: &mut [u32; WORDS],
