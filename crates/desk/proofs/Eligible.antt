@@ -2,7 +2,12 @@
 use Rattle.std.proofs.Common.{◌≡◌, ℕ, zero, suc, ◌+◌, ◌-◌, ◌%◌, ◌<◌, ◌≤◌, Bool, true, false, not, ◌||◌, eqb, List, [], ◌∷◌, map, refl, ap, ◌∙◌, mod-lt, arith, lit<}
 use Rattle.std.specs.Prelude.{Some, None, is_some, ◌==◌}
 use Rattle.std.specs.List.{list_any}
-use borrow.Author.Tests.{lt-ltb, le-ltb}
+use Rattle.rows.specs.Rows.{walk}
+use Rattle.rows.proofs.Walks.{walk_end}
+use lib.Dec.{ltb}
+use mathlib.Core.Bool.{cond}
+use Rattle.std.specs.Prelude.{◌&&◌}
+use borrow.Author.Tests.{ltb-false, lt-ltb, le-ltb}
 use Rattle.board.specs.declared.Unit.{Unit}
 use Rattle.board.specs.Plain.{any}
 use Rattle.board.specs.Board.{the_unit, units, is_frozen}
@@ -67,3 +72,12 @@ eligible_words m r v u h =
       ap (λ x. not (is_frozen x)) (freeze_on m r (the_unit u) h) ∙ (ap not (frozen_back (freeze_at m u)) ∙ not_not (eqb (freeze_at m u) 0)),
       busy_words m r u,
     )
+
+-- a row without a first place has none at all
+pub any_first : (m : List ℕ) (k : ℕ) (f : ℕ → Bool) → list_any f (row_of m k) ≡ (is_some (as_place (head m k)) && list_any f (row_of m k))
+unfolding row_of
+any_first m k f = go (ltb (head m k) 32) refl
+  where
+    go : (c : Bool) → ltb (head m k) 32 ≡ c → list_any f (walk 32 m (head m k)) ≡ (is_some (cond c (Some (head m k)) None) && list_any f (walk 32 m (head m k)))
+    go true e = refl
+    go false e = rw (walk_end m 32 (head m k) (ltb-false (head m k) 32 e))

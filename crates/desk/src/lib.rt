@@ -263,11 +263,12 @@ pub fn release(mem: &mut [u32; WORDS], u: Unit) -> Result<bool, NoSuchUnit>
 
 // ---- sending
 
-// The unit has an active request.
+// The unit has an active request. (Whether any is active is asked first: the compiler then takes the walk out of the rotation while none is.)
 fn is_busy(mem: &[u32; WORDS], unit: KnownUnit) -> bool
     ensures { result ≡ has_active mem.now unit }
 {
-    rows::places_of(mem, ACTIVE).any(|place| unit_at(mem, place).0 == unit.0)
+    rows::first_of(mem, ACTIVE).is_some()
+        && rows::places_of(mem, ACTIVE).any(|place| unit_at(mem, place).0 == unit.0)
 }
 
 // A unit is eligible if something waits on it, it isn't frozen and it has none active.

@@ -56,7 +56,7 @@ unfoldable pub joined : List (List ℕ) → List ℕ
 joined [] = []
 joined (l ∷ more) = l ++ joined more
 
--- On a memory that `fresh` made, however the input was cut into pieces: the head line, the texts and the last answer are the replay of
+-- On a memory that `Replay::new` made, however the input was cut into pieces: the head line, the texts and the last answer are the replay of
 -- the whole input.
 pub record WholeLog : Type 0 where
   pub replays : {m m' : Memory} {left' : List ℕ} {pieces texts : List (List ℕ)} {last : List ℕ}

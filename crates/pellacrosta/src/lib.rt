@@ -17,8 +17,7 @@ ghost use Rattle.pellacrosta.specs.declared.Unclear.TheVariants as unclear;
 ghost use Rattle.pellacrosta.specs.Exported.{Alone, Exported, Given, Reports};
 
 use board::{
-    Cdb, Event, NoSuchEvent, NoSuchUnit, NotHanded, Refusal, Sending, Sense, Ticket, UnableToAbort,
-    Unit, Unreported,
+    Cdb, Event, NoSuchEvent, NoSuchUnit, NotHanded, Refusal, Sending, Sense, Ticket, Unit,
 };
 use rows::WORDS;
 use wheel::Wheel;

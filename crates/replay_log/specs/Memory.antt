@@ -1,4 +1,4 @@
--- The state that the lent memory holds. Assumes nothing.
+-- The state that the memory holds. Assumes nothing.
 use Rattle.std.specs.Prelude.{ℕ, ◌≡◌, Bool, false, List, length}
 use Rattle.board.specs.Plain.{count}
 use Rattle.board.specs.Board.{live}

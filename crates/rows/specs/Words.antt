@@ -39,7 +39,7 @@ put_first m k p =
 unfoldable pub cut_after : List ℕ → ℕ → ℕ → ℕ → List ℕ
 cut_after m k q p = set (set (cond (eqb (tail m k) p) (set m (131 + k) q) m) q (next m p)) (32 + p) 255
 
--- p is taken out of row k, by the place before it
+-- p is taken out of row k, by the place before it; None: it is the first
 abbrev pub cut_out : List ℕ → ℕ → Option ℕ → ℕ → List ℕ
 cut_out m k (Some q) p = cut_after m k q p
 cut_out m k None p = popped m k p

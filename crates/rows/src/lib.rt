@@ -144,7 +144,7 @@ fn take_after(mem: &mut [u32; WORDS], row: Row, before: Place, place: Place)
     mem[32 + p] = 255;
 }
 
-// A place of a row is taken out, by the one before it.
+// A place of a row is taken out, by the one before it; None: it is the first.
 pub fn take_out(mem: &mut [u32; WORDS], row: Row, before: Option<Place>, place: Place)
     ensures { mem.new ≡ cut_out mem.old row before place }
 {
