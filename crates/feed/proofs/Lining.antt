@@ -1,23 +1,19 @@
 -- Bytes fed to a replay, a line at a time. Assumes nothing.
 use Prim.Native.Nat.{ℕ, suc, ◌+◌, ◌-◌, ◌<◌, ◌≤◌, min}
 use native.Mathlib.Omega.{arith}
-use mathlib.Core.Path.{◌≡◌, refl, sym, ap, ◌∙◌, subst}
+use mathlib.Core.Path.{◌≡◌, sym, ap, ◌∙◌}
 use mathlib.Core.Logic.{◌≢◌}
 use mathlib.Core.List.{List, [], ◌∷◌, ◌++◌, append_assoc, append-nil}
 use lib.ListN.{length, get_or, take, drop, take-append-drop, length-drop}
 use Rattle.std.specs.List.{between, copy_within}
 use Rattle.std.proofs.lemmas.Slice.{between_is}
 use Rattle.std.proofs.lemmas.List.Edits.{length-between, get_or-between}
-use lib.Seq.{paste, take-paste, take-take, take_all, drop-cons, drop-drop, get_or-drop, length-take-le, take-append-add, take-append-le, sets-eq}
+use lib.Seq.{paste, take-paste, take-take, take_all, drop-cons, drop-drop, get_or-drop, length-take-le}
 use Rattle.board.specs.Plain.{◌=?◌, ◌≤?◌}
 use Rattle.board.proofs.Choose.{if_ind, by_cases, same, at_most, not_at_most}
-use Rattle.lines.specs.Record.{parse}
-use Rattle.copies.specs.Slots.{pasted}
-use Rattle.copies.proofs.Slotted.{pasted_fits, pasted_size}
 use Rattle.replay_log.specs.Replay.{State, answer}
 use Rattle.replay_log.specs.Memory.{Memory, shown, Holds}
-use Rattle.replay_log.specs.Promise.{Replies}
-use Rattle.feed.specs.Feeding.{after, fed, last_answer, Feeds, Ends}
+use Rattle.feed.specs.Feeding.{after, fed, Feeds}
 use Rattle.feed.specs.LineEnds.{Clear, Appends, SoFar}
 
 -- ---- bytes without a line feed, and a line
@@ -67,102 +63,51 @@ cut_line s a e h g z =
 
 -- ---- the lines so far
 
-pub none_yet : (m : Memory) (s out : List ℕ) → SoFar m m s 0 (take 0 out)
-none_yet m s out = record { holds = λ h. h; whole = λ h. refl }
-
-pub one_more : (m₀ m m' : Memory) (s out out' : List ℕ) (a e filled n : ℕ) → a ≤ e → e < length s → Clear s a e → get_or s e 0 ≡ 10
-    → SoFar m₀ m s a (take filled out)
-    → Appends m m' (between a e s) out out' filled n
-    → SoFar m₀ m' s (e + 1) (take (filled + n) out')
-one_more m₀ m m' s out out' a e filled n l g c z so_far appends = record {
+pub one_more : (m₀ m m' : Memory) (s out out' : List ℕ) (a e : ℕ) → a ≤ e → e < length s → Clear s a e → get_or s e 0 ≡ 10
+    → SoFar m₀ m s a out
+    → Appends m m' (between a e s) out out'
+    → SoFar m₀ m' s (e + 1) out'
+one_more m₀ m m' s out out' a e l g c z so_far appends = record {
   holds = λ h. appends.holds (so_far.holds h);
   whole = λ h.
       let k = so_far.holds h in
       let line = between a e s in
       let more = drop (e + 1) s in
       so_far.whole h
-      ∙ (ap (λ (x : List ℕ). after (take filled out) (fed (shown m) [] x)) (cut_line s a e l g z)
-      ∙ (ap (after (take filled out)) (fed_line (shown m) [] line more (part_clear s a e (omega arith) c))
-      ∙ (ap (λ (x : State). after (take filled out) (after (answer (shown m) line).text (fed x [] more))) (sym (appends.state k))
-      ∙ (ap (λ (x : List ℕ). record { state = (fed (shown m') [] more).state; line = (fed (shown m') [] more).line; text = x }) (sym (append_assoc (take filled out) (answer (shown m) line).text (fed (shown m') [] more).text))
+      ∙ (ap (λ (x : List ℕ). after out (fed (shown m) [] x)) (cut_line s a e l g z)
+      ∙ (ap (after out) (fed_line (shown m) [] line more (part_clear s a e (omega arith) c))
+      ∙ (ap (λ (x : State). after out (after (answer (shown m) line).text (fed x [] more))) (sym (appends.state k))
+      ∙ (ap (λ (x : List ℕ). record { state = (fed (shown m') [] more).state; line = (fed (shown m') [] more).line; text = x }) (sym (append_assoc out (answer (shown m) line).text (fed (shown m') [] more).text))
       ∙ ap (λ (x : List ℕ). after x (fed (shown m') [] more)) (sym (appends.says k))))));
 }
 
--- ---- one answer behind the others
-
--- of all 64 bytes that are pasted behind the first `filled`, those of the text count
-behind : (out all text : List ℕ) (filled : ℕ) → length all ≡ 64 → filled + 64 ≤ length out → take (length text) all ≡ text → length text ≤ 64
-    → take (filled + length text) (pasted out filled all) ≡ take filled out ++ text
-behind out all text filled size room front short =
-    let more = drop (filled + length all) out in
-    let lf = length-take-le filled out (omega arith) in
-    let e : filled + length text ≡ length (take filled out) + length text = omega arith in
-    ap (take (filled + length text)) (pasted_fits out all filled (omega arith) ∙ (sets-eq all out filled (omega arith) ∙ append_assoc (take filled out) all more))
-    ∙ (ap (λ (k : ℕ). take k (take filled out ++ (all ++ more))) e
-    ∙ (take-append-add (take filled out) (all ++ more) (length text)
-    ∙ ap (λ (x : List ℕ). take filled out ++ x) (take-append-le (length text) all more (omega arith) ∙ front)))
-
-pub appended : (m m' : Memory) (line all text out : List ℕ) (filled : ℕ) → length all ≡ 64 → filled + 64 ≤ length out → take (length text) all ≡ text → length text ≤ 64
-    → Replies m m' (parse line) text
-    → Appends m m' line out (pasted out filled all) filled (length text)
-appended m m' line all text out filled size room front short replies = record {
-  holds = replies.holds;
-  state = replies.state;
-  says = λ h. behind out all text filled size room front short ∙ ap (λ (x : List ℕ). take filled out ++ x) (replies.says h);
-  within = short;
-  size = pasted_size out all filled;
-}
-
--- ---- a piece, and the end
+-- ---- a piece
 
 -- the lines so far are all the whole ones, and what stands over was kept
-pub fed_piece : (m m' : Memory) (buf left text : List ℕ) (e at : ℕ) → e ≤ length buf → at ≤ length (take e buf) → Clear (take e buf) at (length (take e buf)) → SoFar m m' (take e buf) at text
-    → left ≡ take 401 (between at e buf) → Feeds m m' (take e buf) left text
-fed_piece m m' buf left text e at room l c so_far k = record {
+pub fed_piece : (m m' : Memory) (s left text : List ℕ) (at : ℕ) → Clear s at (length s) → SoFar m m' s at text → left ≡ take 401 (drop at s) → Feeds m m' s left text
+fed_piece m m' s left text at c so_far k = record {
   holds = so_far.holds;
   state = λ h. sym (ap (λ x. x.state) (all h));
   says = λ h. sym (append-nil text) ∙ sym (ap (λ x. x.text) (all h));
-  keeps = λ h. k ∙ (ap (take 401) (between_is buf at e) ∙ ap (λ x. take 401 x.line) (sym (all h)));
+  keeps = λ h. k ∙ ap (λ x. take 401 x.line) (sym (all h));
 }
   where
-    all : Holds m → fed (shown m) [] (take e buf) ≡ record { state = shown m'; line = drop at (take e buf); text = text ++ [] }
-    all h = so_far.whole h ∙ ap (after text) (fed_clear (shown m') [] (drop at (take e buf)) (drop_clear (take e buf) at c))
+    all : Holds m → fed (shown m) [] s ≡ record { state = shown m'; line = drop at s; text = text ++ [] }
+    all h = so_far.whole h ∙ ap (after text) (fed_clear (shown m') [] (drop at s) (drop_clear s at c))
 
--- as many bytes as are asked for, or all
-pub take_least : (n k : ℕ) (l : List ℕ) → length l ≡ k → take (min n k) l ≡ take n l
-take_least n k l z = by_cases (n ≤? k)
-    (λ c. let h : n ≤ k = at_most c in let e : min n k ≡ n = omega arith in ap (λ (j : ℕ). take j l) e)
-    (λ c. let h : k < n = not_at_most c in let e : min n k ≡ k = omega arith in ap (λ (j : ℕ). take j l) e ∙ (take_all k l (omega arith) ∙ sym (take_all n l (omega arith))))
-
-pub last_none : (s : State) (n : ℕ) (l : List ℕ) → n ≡ 0 → [] ≡ last_answer s (take n l)
-last_none s n l z = ap (λ (k : ℕ). last_answer s (take k l)) (sym z)
-
-last_some : (s : State) (l : List ℕ) → 0 < length l → last_answer s l ≡ (answer s l).text
-last_some s [] h = absurd (omega arith)
-last_some s (c ∷ cs) h = refl
-
-pub last_line : (m m' : Memory) (buf out out' : List ℕ) (e n : ℕ) → e ≤ length buf → e ≢ 0 → Appends m m' (take e buf) out out' 0 n → Holds m → take n out' ≡ last_answer (shown m) (take e buf)
-last_line m m' buf out out' e n room z appends h =
-    let size = length-take-le e buf room in
-    let k : n ≡ 0 + n = omega arith in
-    ap (λ (j : ℕ). take j out') k ∙ (appends.says h ∙ sym (last_some (shown m) (take e buf) (omega arith)))
-
--- the same bytes under another description
-pub feeds_as : {m m' : Memory} {bytes bytes' left text : List ℕ} → bytes ≡ bytes' → Feeds m m' bytes left text → Feeds m m' bytes' left text
-feeds_as {m} {m'} {left = left} {text = text} e f = subst (λ (b : List ℕ). Feeds m m' b left text) e f
-
-pub ends_as : {m : Memory} {left left' text : List ℕ} → left ≡ left' → Ends m left text → Ends m left' text
-ends_as {m} {text = text} e f = subst (λ (b : List ℕ). Ends m b text) e f
-
--- what is kept of the bytes from a on
-pub kept_over : (buf : List ℕ) (a e n : ℕ) → a ≤ e → e ≤ length buf → n ≡ min (e - a) 401 → take n (copy_within buf a (a + n) 0) ≡ take 401 (take (e - a) (drop a buf))
-kept_over buf a e n h g z =
+-- what is kept of the bytes from a on, of a buffer of which the first e count
+pub kept_over : (buf now : List ℕ) (a e n : ℕ) → take e buf ≡ now → a ≤ length now → e ≤ length buf → n ≡ min (e - a) 401 → take n (copy_within buf a (a + n) 0) ≡ take 401 (drop a now)
+kept_over buf now a e n v h g z =
+    let r = length-take-le e buf g in
+    let j : length (take e buf) ≡ length now = ap length v in
     let d = length-drop a buf in
     let k : a + n - a ≡ n = omega arith in
     let l = length-take-le (e - a) (drop a buf) (omega arith) in
     let o : 0 + n ≡ n = omega arith in
-    rw k (ap (λ (j : ℕ). take j (paste buf 0 (drop a buf) n)) (sym o) ∙ take-paste buf 0 (drop a buf) n (omega arith) (omega arith)
+    let first : take n (paste buf 0 (drop a buf) n) ≡ take 401 (take (e - a) (drop a buf)) =
+    ap (λ (j : ℕ). take j (paste buf 0 (drop a buf) n)) (sym o) ∙ take-paste buf 0 (drop a buf) n (omega arith) (omega arith)
     ∙ sym (take-take n (e - a) (drop a buf) (omega arith))
     ∙ (by_cases (e - a ≤? 401)
     (λ c. let o : e - a ≤ 401 = at_most c in take_all n _ (omega arith) ∙ sym (take_all 401 _ (omega arith)))
-    (λ c. let o : 401 < e - a = not_at_most c in let m : n ≡ 401 = omega arith in ap (λ (j : ℕ). take j (take (e - a) (drop a buf))) m)))
+    (λ c. let o : 401 < e - a = not_at_most c in let m : n ≡ 401 = omega arith in ap (λ (j : ℕ). take j (take (e - a) (drop a buf))) m)) in
+    rw k (first ∙ ap (take 401) (between_is buf a e ∙ ap (drop a) v))

@@ -1,5 +1,5 @@
 -- Where a line ends, and what the functions below `feed` promise. Assumes nothing.
-use Rattle.std.specs.Prelude.{ℕ, ◌+◌, ◌≤◌, ◌<◌, ◌≡◌, List, [], ◌++◌, length, get_or, take, drop}
+use Rattle.std.specs.Prelude.{ℕ, ◌+◌, ◌≤◌, ◌<◌, ◌≡◌, List, [], ◌++◌, length, get_or, drop}
 use Rattle.replay_log.specs.Replay.{answer}
 use Rattle.replay_log.specs.Memory.{Memory, shown, Holds}
 use Rattle.feed.specs.Feeding.{after, fed}
@@ -8,13 +8,12 @@ use Rattle.feed.specs.Feeding.{after, fed}
 pub record Clear (s : List ℕ) (a e : ℕ) : Type 0 where
   pub clear : (k : ℕ) → a ≤ k → k < e → get_or s k 0 ≡ 10 → ⊥
 
--- one line was answered behind the first `filled` bytes of out
-pub record Appends (m m' : Memory) (line out out' : List ℕ) (filled n : ℕ) : Type 0 where
+-- one line was answered behind what was written
+pub record Appends (m m' : Memory) (line out out' : List ℕ) : Type 0 where
   pub holds : Holds m → Holds m'
   pub state : Holds m → shown m' ≡ (answer (shown m) line).state
-  pub says : Holds m → take (filled + n) out' ≡ take filled out ++ (answer (shown m) line).text
-  pub within : n ≤ 64
-  pub size : length out' ≡ length out
+  pub says : Holds m → out' ≡ out ++ (answer (shown m) line).text
+  pub within : length out' ≤ length out + 64
 
 -- the lines before index `at` were answered, in `text`: all of s comes to these answers and then the rest of it
 pub record SoFar (m m' : Memory) (s : List ℕ) (at : ℕ) (text : List ℕ) : Type 0 where

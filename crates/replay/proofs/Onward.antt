@@ -1,9 +1,8 @@
 -- A fresh memory, and one more piece of input. Assumes nothing.
-use Prim.Native.Nat.{ℕ, ◌+◌}
-use mathlib.Core.Path.{◌≡◌, ap, ◌∙◌, subst}
+use Prim.Native.Nat.{ℕ}
+use mathlib.Core.Path.{◌≡◌, ap, sym, ◌∙◌, subst}
 use mathlib.Core.List.{List, [], ◌∷◌, ◌++◌}
-use lib.ListN.{take, drop}
-use lib.Seq.{take-add}
+use lib.ListN.{length, take, drop, take-append-drop}
 use Rattle.replay_log.specs.Memory.{Memory}
 use Rattle.replay_log.specs.Promise.{Begins}
 use Rattle.feed.specs.Feeding.{Feeds, Through, start, turn}
@@ -15,15 +14,15 @@ one_more : {m n : Memory} {left left' begun text : List ℕ} {first : Memory} {p
 one_more piece start f = turn _ _ _ _ _ _ [] [] f start
 one_more piece (turn m n left kept earlier text pieces texts g more) f = turn m n left kept earlier text _ _ g (one_more piece more f)
 
-pub begun : (m : Memory) (buf : List ℕ) → Begins m → Progress m (take 0 buf)
-begun m buf b = record { first = m; begins = b; pieces = []; texts = []; through = start }
+pub begun : {m : Memory} {left : List ℕ} → Begins m → left ≡ [] → Progress m left
+begun {m} {left} b e = subst (Progress m) (sym e) record { first = m; begins = b; pieces = []; texts = []; through = start }
 
 -- what was read behind what stood over was fed
-pub onward : (m n : Memory) (old buf left' text : List ℕ) (e k : ℕ) → Progress m (take e old) → take e buf ≡ take e old → Feeds m n (take (e + k) buf) left' text → Progress n left'
-onward m n old buf left' text e k p same f = record {
+pub onward : {m n : Memory} {left read left' text : List ℕ} → Progress m left → take (length left) read ≡ left → Feeds m n read left' text → Progress n left'
+onward {m} {n} {left} {read} {left'} {text} p same f = let piece = drop (length left) read in record {
   first = p.first;
   begins = p.begins;
-  pieces = p.pieces ++ (take k (drop e buf) ∷ []);
+  pieces = p.pieces ++ (piece ∷ []);
   texts = p.texts ++ (text ∷ []);
-  through = one_more (take k (drop e buf)) p.through (subst (λ (b : List ℕ). Feeds m n b left' text) (take-add e k buf ∙ ap (λ (l : List ℕ). l ++ take k (drop e buf)) same) f);
+  through = one_more piece p.through (subst (λ (b : List ℕ). Feeds m n b left' text) (sym (take-append-drop (length left) read) ∙ ap (λ (l : List ℕ). l ++ piece) same) f);
 }

@@ -4,45 +4,34 @@
 // next one is read: a log can be piped in live.
 #![tactic(auto)]
 
-ghost use Rattle.std.specs.Prelude.{◌≡◌, ℕ, ◌+◌, ◌≤◌, length, take, MatchResult};
+ghost use Rattle.std.specs.Prelude.{◌≡◌, []};
 ghost use Rattle.replay_log.specs.Promise.{Begins};
 ghost use Rattle.replay.specs.Progress.{Progress};
 
 use answers::Text;
-use feed::{INPUT, OUTPUT};
+use feed::{Output, Pending};
 use replay_log::Replay;
 use std::io::{self, Read, Write};
 
-// A piece of the log, read behind the first `over` bytes, which stay as they are. How many bytes came: 0 at the end of the input,
-// and where the input fails.
-fn read_behind(input: &mut impl Read, buf: &mut [u8], over: usize) -> usize
-    requires { over ≤ length buf.old }
-    ensures { (over + result ≤ length buf.old) × (take over buf.new ≡ take over buf.old) }
-{
-    input.read(&mut buf[over..]).unwrap_or(0)
-}
-
-// The log, piece by piece, until the input ends: what stands over then. It fails where the output takes no more. (The loop counts its
-// turns up to a number that no log uses up, since nothing says that an input ends.)
+// The log, piece by piece, until the input ends. It fails where the output takes no more. (The loop counts its turns up to a number
+// that no log uses up, since nothing says that an input ends.)
+#[tactic(auto, using(crate::proofs::Onward::begun, crate::proofs::Onward::onward))]
 fn run(
     input: &mut impl Read,
     output: &mut impl Write,
     replay: &mut Replay,
-    buf: &mut [u8; INPUT],
-    out: &mut [u8; OUTPUT],
-) -> io::Result<usize>
-    requires { Begins replay.old }
-    ensures { MatchResult result (λ over. Progress replay.new (take over buf.new)) (λ _. (over : ℕ) × Progress replay.new (take over buf.new)) }
+    pending: &mut Pending,
+    out: &mut Output,
+) -> io::Result<()>
+    requires { Begins replay.old × (pending.old ≡ []) }
+    ensures { Progress replay.new pending.new }
 {
-    let mut over = 0;
     for _ in 0..u64::MAX {
-        let n = read_behind(input, buf, over);
-        if n == 0 {
-            return Ok(over);
+        if pending.read(input) == 0 {
+            return Ok(());
         }
-        let turn = feed::feed(buf, over + n, replay, out);
-        over = turn.over;
-        output.write_all(&out[..turn.filled])?;
+        feed::feed(pending, replay, out);
+        output.write_all(out.as_slice())?;
     }
     Err(io::ErrorKind::Other.into())
 }
@@ -55,22 +44,17 @@ fn write_head(output: &mut impl Write) -> io::Result<()> {
 }
 
 // The head line, the answers to the log, and at its end a last line that has no line feed.
-fn answer_log(
-    input: &mut impl Read,
-    output: &mut impl Write,
-    buf: &mut [u8; INPUT],
-    out: &mut [u8; OUTPUT],
-) -> io::Result<()> {
+fn answer_log(input: &mut impl Read, output: &mut impl Write) -> io::Result<()> {
     write_head(output)?;
     let mut replay = Replay::new();
-    let over = run(input, output, &mut replay, buf, out)?;
-    let last = feed::finish(buf, over, &mut replay, out);
-    output.write_all(&out[..last])
+    let mut pending = Pending::new();
+    let mut out = Output::new();
+    run(input, output, &mut replay, &mut pending, &mut out)?;
+    feed::finish(&pending, &mut replay, &mut out);
+    output.write_all(out.as_slice())
 }
 
 // The exit status is 0 also where the output took no more.
 fn main(rt: HostRuntime) {
-    let mut buf = [0u8; INPUT];
-    let mut out = [0u8; OUTPUT];
-    let _ = answer_log(&mut rt.stdin(), &mut rt.stdout(), &mut buf, &mut out);
+    let _ = answer_log(&mut rt.stdin(), &mut rt.stdout());
 }
