@@ -19,18 +19,12 @@ fn number<T: Copy, E: Into<u8>>(answer: Result<T, E>) -> u8 {
 
 // The ticket that was given, or 0.
 fn ticket(answer: Result<Ticket, Refusal>) -> u32 {
-    match answer {
-        Ok(given) => given.0,
-        Err(_) => 0,
-    }
+    answer.map_or(0, |given| given.0)
 }
 
 // The status byte of what was handed back, or 0.
 fn status(answer: Result<Handed, NotHanded>) -> u8 {
-    match answer {
-        Ok(handed) => handed.told.status,
-        Err(_) => 0,
-    }
+    answer.map_or(0, |handed| handed.told.status)
 }
 
 // ---- printing

@@ -57,7 +57,8 @@ fn check(applies: bool, why: Refusal) -> Result<(), Refusal>
     if applies { Err(why) } else { Ok(()) }
 }
 
-// Checks 4 to 8.
+// Checks 4 to 8. (From here on a whole block is asked for: `examine` alone tests it, and a type for it would be made and taken apart
+// there.)
 #[tactic(auto, using(crate::proofs::Numbers::refused_flags), unfolding(crate::specs::Checked::checks_from_4, board::specs::Plain::first_that_applies, board::specs::Block::fields, board::specs::TakingIn::wrong_cdb_length, board::specs::TakingIn::checks_of_block))]
 fn checks_from_4(block: &[u8]) -> Result<(), Refusal>
     requires { whole_block ≤ length block.now }
@@ -177,8 +178,8 @@ fn tell(block: &mut [u8], told: Told)
 }
 
 // A finished request's block is told what is to be told; a block that is not its own is left as it was. Whether it is
-// its own: a whole block with the request's address in bytes 0 to 3. (A bool: the desk's one refusal here would be no plainer
-// by an error type of this crate and its From.)
+// its own: a whole block with the request's address in bytes 0 to 3. (A bool: `NotHanded` has a case that
+// can't be here.)
 #[tactic(auto, unfolding(board::specs::Calls::not_its_block))]
 pub fn hand_over(block: &mut [u8], x: Finished) -> bool
     ensures { HandedOver result block.new block.old x }

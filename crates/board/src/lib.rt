@@ -28,7 +28,7 @@ impl From<u32> for Unit {
     }
 }
 
-// The 12 CDB bytes as three little-endian words, as the definitions have them.
+// The 12 CDB bytes as three little-endian words: definitions and theorems speak of the words.
 #[derive(Clone, Copy, Debug, PartialEq, Eq)]
 pub struct Cdb {
     pub first: u32,
@@ -43,7 +43,7 @@ pub struct Request {
     pub unit: Unit,
     pub address: u32,
     pub callback: u32,
-    // The callback is wanted: its disable flag is clear.
+    // The callback is wanted: its disable flag is clear. (No Option: a look shows the value either way.)
     pub wanted: bool,
     // Data length.
     pub length: u32,
@@ -93,7 +93,7 @@ pub struct Found {
 
 // ---- how a request ends
 
-// What became of the sense: a byte count, failed, or none.
+// What became of the sense: a byte count, failed, or none. (Document 01 names these three.)
 #[derive(Clone, Copy)]
 pub enum Sense {
     Bytes(u8),

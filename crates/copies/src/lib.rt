@@ -20,7 +20,8 @@ const ROOM: usize = 200;
 // Bytes of the store: slot i has its copy at 200 * i.
 pub const STORE: usize = 6400;
 
-// All of src to dst, from `at` on; where it has no room there, nothing.
+// All of src to dst, from `at` on; where it has no room there, nothing. (A place in a slice, and no length beside it: `copy_from_slice` with
+// its test.)
 #[tactic(auto, using(crate::proofs::Slotted::pasted_fits, crate::proofs::Slotted::pasted_out, crate::proofs::Slotted::put_back))]
 pub fn copy(dst: &mut [u8], at: usize, src: &[u8])
     ensures { dst.new ≡ pasted dst.old at src.now }
@@ -30,7 +31,8 @@ pub fn copy(dst: &mut [u8], at: usize, src: &[u8])
     }
 }
 
-// (A struct for each slot is no plainer: a search reads the numbers alone, and the definitions read words.)
+// (A struct for each slot is no plainer: a search reads the numbers alone, side by side, and the definitions read words. 0 is no ticket, and
+// stands in a free slot.)
 #[derive(Drop)]
 pub struct Copies {
     pub book: [u32; BOOK],

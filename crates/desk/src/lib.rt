@@ -10,7 +10,7 @@ ghost use Rattle.board.specs.Calls.{abort, event, freeze, release, look, reset, 
 ghost use Rattle.board.specs.Sending.{rotation};
 ghost use Rattle.rows.specs.Words.{head};
 ghost use Rattle.rows.specs.Rows.{row_of};
-ghost use Rattle.desk.specs.Words.{known, written, freeze_at, FreezeSet, has_active, can_send, launched, closed, ToldFits, finished_words, frozen_if, unit_at};
+ghost use Rattle.desk.specs.Words.{bit, known, written, freeze_at, FreezeSet, has_active, can_send, launched, closed, ToldFits, finished_words, frozen_if, unit_at};
 ghost use Rattle.desk.specs.Aborts.{WaitsOn, aborted_told, aborted_words, asked_words};
 ghost use Rattle.desk.specs.TakingIn.{held_to, entered, status_said};
 ghost use Rattle.desk.specs.Events.{closing_of, Reported};
@@ -42,7 +42,8 @@ const FINISHED: Row = Row(1);
 // The active requests, in the order of sending.
 const ACTIVE: Row = Row(2);
 
-// A unit that there is, 0 to 63 (a Unit may be any byte). To a clause it is its number.
+// A unit that there is, 0 to 63 (a Unit may be any byte). To a clause it is its number. (Alike but for the bound: never to be taken for a
+// row or a place.)
 #[derive(Clone, Copy)]
 struct KnownUnit(usize);
 
@@ -59,7 +60,7 @@ impl Model for KnownUnit {
     ghost inverse = { λ n. record { 0 = n } };
 }
 
-// The unit of this number, where there is one.
+// The unit of this number, where there is one. (It bears the name of its definition, as private functions here do; so no TryFrom.)
 fn known(unit: Unit) -> Result<KnownUnit, NoSuchUnit>
     ensures { result ≡ known unit }
 {
@@ -236,14 +237,14 @@ pub fn look(mem: &[u32; WORDS]) -> Option<First>
 
 // ---- freeze and release
 
-// A unit's freeze becomes x, whatever it was: whether it was frozen before; refused above 63.
+// A unit is frozen, or isn't, whatever it was: whether it was frozen before; refused above 63.
 #[tactic(auto, using(crate::proofs::Freezes::unit_refused, crate::proofs::Freezes::unit_set))]
-fn set_freeze(mem: &mut [u32; WORDS], u: Unit, x: u32) -> Result<bool, NoSuchUnit>
-    ensures { FreezeSet mem.old mem.new u.0 x result }
+fn set_freeze(mem: &mut [u32; WORDS], u: Unit, frozen: bool) -> Result<bool, NoSuchUnit>
+    ensures { FreezeSet mem.old mem.new u.0 (bit frozen) result }
 {
     let KnownUnit(i) = known(u)?;
     let was = mem[262 + i];
-    mem[262 + i] = x;
+    mem[262 + i] = u32::from(frozen);
     Ok(was != 0)
 }
 
@@ -251,14 +252,14 @@ fn set_freeze(mem: &mut [u32; WORDS], u: Unit, x: u32) -> Result<bool, NoSuchUni
 pub fn freeze(mem: &mut [u32; WORDS], u: Unit) -> Result<bool, NoSuchUnit>
     ensures { Freezes mem.old mem.new u (freeze u) (freezing_says result) }
 {
-    set_freeze(mem, u, 1)
+    set_freeze(mem, u, true)
 }
 
 // Release a unit.
 pub fn release(mem: &mut [u32; WORDS], u: Unit) -> Result<bool, NoSuchUnit>
     ensures { Freezes mem.old mem.new u (release u) (freezing_says result) }
 {
-    set_freeze(mem, u, 0)
+    set_freeze(mem, u, false)
 }
 
 // ---- sending
@@ -420,7 +421,8 @@ fn active_at(mem: &[u32; WORDS], place: Place) -> Active
     }
 }
 
-// What a block will be told is kept at a place.
+// What a block will be told is kept at a place. (ToldFits: its numbers fit, as a `Told`'s do by their types. The laws of the words ask for
+// it, which know no types.)
 fn write_told(mem: &mut [u32; WORDS], place: Place, told: Told)
     ensures { (mem.new ≡ closed mem.old place told) × ToldFits told }
 {

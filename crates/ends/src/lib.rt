@@ -223,7 +223,7 @@ fn unmoved(q: Request, base: u8, frozen: bool) -> Told
     told_of(end, frozen)
 }
 
-// Abort while waiting: 02h, and no freeze.
+// Abort while waiting: 02h, and no freeze. (This and a bus reset are two ends of document 01, over one body.)
 pub fn aborted(q: Request, frozen: bool) -> Told
     ensures { result ≡ told (end_unmoved 0x02 (capped_request q)) frozen }
 {

@@ -26,8 +26,8 @@ fn append(line: &[u8], replay: &mut Replay, out: &mut Output)
     out.append(&text);
 }
 
-// Every whole line of s, answered in an output that begins anew: where the first line that has not ended begins. (No `split`: it doesn't
-// tell whether its last part has ended.)
+// Every whole line of s, answered in an output that begins anew: where the first line that has not ended begins. (A `while let`: an iterator over
+// the line feeds would still need the number beside it, where the line begins.)
 fn whole_lines(s: &[u8], replay: &mut Replay, out: &mut Output) -> usize
     requires { length s.now ≤ 16384 }
     ensures so_far { SoFar replay.old replay.new s.now result out.new }

@@ -6,7 +6,7 @@ use std::marker::Model;
 
 const INPUT: usize = 16384;
 
-// A buffer, and how many of its bytes count.
+// A buffer, and how many of its bytes count. (It has with `Text` and `Output` what every such struct has; what may be done with it is its own.)
 #[derive(Drop)]
 pub struct Pending {
     bytes: [u8; INPUT],
@@ -33,7 +33,7 @@ impl Pending {
     }
 
     // A piece of the log, behind what stands there, which stays as it is. How many bytes came: 0 at the end of the input, and where the
-    // input fails.
+    // input fails, which the program has never told apart (docs/DECISIONS.md).
     pub fn read(&mut self, input: &mut impl Read) -> usize
         ensures { (take (length self.old) self.new ≡ self.old) × (length self.new ≡ length self.old + result) }
     {

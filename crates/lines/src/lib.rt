@@ -10,7 +10,7 @@ ghost use Rattle.lines.specs.Record.{told, parse, record_of, Parsed, by_letter, 
 use board::{Event, Sense, Ticket};
 
 // A record. The bytes of a submitted block stand at the start of the lent array; here is how many they are. A unit may be
-// any number, since the desk is to refuse those above 63.
+// any number, since the desk is to refuse those above 63. (A number and no slice: taking in writes to the block.)
 #[derive(Clone, Copy)]
 pub enum Line {
     Submit(usize),
@@ -28,7 +28,7 @@ pub enum Line {
 #[derive(Clone, Copy, Debug, PartialEq, Eq)]
 pub struct Malformed;
 
-// The kind of an event. The two further fields of a "complete" are yet to be read.
+// The kind of an event. The two further fields of a "complete" are yet to be read. (No Option: a "complete" is a kind too.)
 #[derive(Clone, Copy)]
 enum Kind {
     Plain(Event),
@@ -193,7 +193,8 @@ fn all_hex(s: &[u8]) -> bool
     ok
 }
 
-// The bytes that these hex digits make, two to a byte, to the start of the lent array.
+// The bytes that these hex digits make, two to a byte, to the start of the lent array. (At most 400 digits are asked for: `parse_line` alone
+// tests it. A `zip` of `chunks_exact` was tried, and its proof didn't close.)
 #[tactic(auto, using(crate::proofs::Texts::hex_at, crate::proofs::Texts::decode_next, crate::proofs::Texts::decode_end))]
 fn decode(s: &[u8], block: &mut [u8; 200])
     requires { (length s.now ≤ 400) × (all_hex s.now ≡ true) }

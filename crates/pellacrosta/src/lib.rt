@@ -135,7 +135,7 @@ fn event_meant(kind: u32, scsi: u32, sense: u32) -> Result<Event, Unclear>
     }
 }
 
-// ---- what an answer is in C
+// ---- what an answer is in C. (Functions, and no `From`: each bears the name of its definition, which C's promises cite.)
 
 // Taking in, refused.
 fn not_taken(refused: u32) -> Taken
@@ -280,8 +280,8 @@ fn as_handed(a: Result<board::Handed, NotHanded>) -> Handed
     }
 }
 
-// ---- the calls, in document 01's order. Each looks at the count of words first. (Each is a symbol of C's, so those that differ in a name
-// alone stay apart.)
+// ---- the calls, in document 01's order. Each looks at the count of words first, which C gives beside them: a slice can't be made a
+// reference to 838 words. (Each is a symbol of C's, so those that differ in a name alone stay apart.)
 
 // Fewer words are lent than a desk has: the library's own refusal.
 const TOO_FEW_WORDS: u32 = 201;

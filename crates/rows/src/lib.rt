@@ -17,7 +17,8 @@ pub const PLACES: usize = 32;
 pub const ROWS: usize = 67;
 
 // Words of the memory. By place: the next place of its row at 0, the row that holds it at 32. By row: its first place at 64, its last
-// at 131. By place: its ticket at 198, by which a row is searched. The other words are not this crate's.
+// at 131. By place: its ticket at 198, by which a row is searched. The other words are not this crate's. (They are lent by C. A link of 32
+// or more leads nowhere, and a place that no row holds has 255 for its row; links are compared and moved as the words they are.)
 pub const WORDS: usize = 838;
 
 // A place, 0 to 31: never a ticket, never a unit. To a clause it is its number.
@@ -37,7 +38,7 @@ impl Model for Place {
     ghost inverse = { λ n. record { 0 = n } };
 }
 
-// A row, 0 to 66. To a clause it is its number.
+// A row, 0 to 66. To a clause it is its number. (Alike but for the bound: never to be taken for a place.)
 #[derive(Clone, Copy)]
 pub struct Row(pub usize);
 
@@ -61,7 +62,7 @@ pub struct Spot {
     pub place: Place,
 }
 
-// The place that a word names; from 32 on it names none.
+// The place that a word names; from 32 on it names none. (No TryFrom: there is nothing to tell of a word that names none.)
 fn place_of(word: u32) -> Option<Place>
     ensures { result ≡ as_place word }
 {
