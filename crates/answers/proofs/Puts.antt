@@ -1,5 +1,6 @@
 -- The library's text of a number is ours, and stands where it is put. Assumes nothing.
-use Rattle.std.proofs.Common.{◌≡◌, ℕ, ◌+◌, ◌^◌, ◌/◌, ◌%◌, ◌≤◌, ◌<◌, List, [], ◌∷◌, ◌++◌, zero, suc, length, take, drop, refl, inl, inr, arith}
+use Rattle.std.proofs.Common.{◌≡◌, ℕ, ◌+◌, ◌*◌, ◌^◌, ◌/◌, ◌%◌, ◌≤◌, ◌<◌, List, [], ◌∷◌, ◌++◌, zero, suc, length, take, drop, refl, inl, inr, arith}
+use Rattle.std.proofs.Math.Nat.{one-le-pow}
 use Rattle.std.proofs.Math.Seq.{take-add}
 use Rattle.std.proofs.lemmas.Bool.{cases_lt}
 use Rattle.std.proofs.lemmas.Fmt.{decimal_digit, decimal_step}
@@ -16,7 +17,7 @@ length_digits (suc k) n = grind (arith, common_steps, length_digits k (n / 10))
 -- ---- the library's text is ours
 
 -- a number below 10 has one place
-one_place : (n : ℕ) → n < 10 → places n ≡ 1
+pub one_place : (n : ℕ) → n < 10 → places n ≡ 1
 unfolding places place_from
 one_place n h = grind (arith, common_steps)
 
@@ -24,6 +25,13 @@ one_place n h = grind (arith, common_steps)
 one_more_place : (n : ℕ) → 10 ≤ n → n < 2 ^ 32 → places n ≡ suc (places (n / 10))
 unfolding places place_from
 one_more_place n least below = grind (arith, common_steps)
+
+-- the logarithm to the base 10, and one
+pub places_by_log : (k n : ℕ) → 10 ^ k ≤ n → n < 10 * 10 ^ k → n < 2 ^ 32 → places n ≡ k + 1
+places_by_log zero n least most below = one_place n (omega arith)
+places_by_log (suc k) n least most below =
+    let power : 1 ≤ 10 ^ k = one-le-pow k 10 (omega arith) in
+    grind (arith, common_steps, one_more_place n (omega (arith, power)) below, places_by_log k (n / 10) (omega arith) (omega arith) (omega arith))
 
 one_digit : (n : ℕ) → n < 10 → fmt.decimal n ≡ decimal n
 unfolding decimal digits

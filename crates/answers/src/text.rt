@@ -107,20 +107,12 @@ pub(crate) trait Field {
         ensures { (text.new ≡ text.old ++ shows self) × (length (shows self) ≤ 11) };
 }
 
-// How many digits a number has. (The library has no logarithm to the base 10; a sum of comparisons has no branch.)
-#[tactic(auto, unfolding(crate::specs::Answer::places, crate::specs::Answer::place_from))]
+// How many digits a number has.
+#[tactic(auto, using(crate::proofs::Puts::places_by_log, crate::proofs::Puts::one_place))]
 fn places_of(n: u32) -> usize
     ensures { (result ≡ places n) × (result ≤ 10) }
 {
-    1 + usize::from(10 <= n)
-        + usize::from(100 <= n)
-        + usize::from(1000 <= n)
-        + usize::from(10000 <= n)
-        + usize::from(100000 <= n)
-        + usize::from(1000000 <= n)
-        + usize::from(10000000 <= n)
-        + usize::from(100000000 <= n)
-        + usize::from(1000000000 <= n)
+    n.checked_ilog10().map_or(1, |k| k as usize + 1)
 }
 
 // A number.
