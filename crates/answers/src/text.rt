@@ -7,7 +7,8 @@ use std::marker::Model;
 
 // ---- the line
 
-// 64 bytes, more than the longest line has, and how many of them are written.
+// 64 bytes, more than the longest line has, and how many of them are written. (So room is asked for where a part is written, and never
+// tested.)
 #[derive(Drop)]
 pub struct Text {
     bytes: [u8; 64],

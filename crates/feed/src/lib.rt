@@ -42,7 +42,7 @@ fn whole_lines(s: &[u8], replay: &mut Replay, out: &mut Output) -> usize
     at
 }
 
-// ---- a piece of the log
+// ---- a piece of the log. (The replay, its input and its output are lent apart, as the program reads into one and writes from another.)
 
 // What is read, behind what stood over before: its whole lines are answered, and what stands over of it then is still pending.
 #[tactic(auto, using(crate::proofs::Lining::fed_piece))]
