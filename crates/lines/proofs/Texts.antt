@@ -164,17 +164,19 @@ bytes_end s i h = bytes_short (drop (2 * i) s) (rw (length-drop) (omega arith))
 
 -- ---- fields of one and of two bytes
 
+-- a field of one byte is that byte
+one_byte : (s : List ℕ) (c : ℕ) → length s ≡ 1 → get_or s 0 0 ≡ c → s ≡ c ∷ []
+one_byte [] c h k = absurd (omega arith)
+one_byte (a ∷ []) c h k = ap (λ x. x ∷ []) k
+one_byte (a ∷ b ∷ s) c h k = absurd (omega arith)
+
 pub kind_k : (s : List ℕ) → length s ≡ 1 → get_or s 0 0 ≡ 75 → kind s ≡ Some (Plain AbortDone)
 unfolding kind
-kind_k [] h k = absurd (omega arith)
-kind_k (a ∷ []) h k = rw (eq-eqb a 75 k)
-kind_k (a ∷ b ∷ s) h k = absurd (omega arith)
+kind_k s h k = ap kind (one_byte s 75 h k)
 
 pub kind_c : (s : List ℕ) → length s ≡ 1 → get_or s 0 0 ≡ 67 → kind s ≡ Some Completed
 unfolding kind
-kind_c [] h k = absurd (omega arith)
-kind_c (a ∷ []) h k = rw k
-kind_c (a ∷ b ∷ s) h k = absurd (omega arith)
+kind_c s h k = ap kind (one_byte s 67 h k)
 
 pub kind_code : (s : List ℕ) → (length s ≡ 1 → get_or s 0 0 ≡ 75 → ⊥) → (length s ≡ 1 → get_or s 0 0 ≡ 67 → ⊥) → kind s ≡ option_and_then named (code s)
 unfolding kind code
@@ -186,15 +188,11 @@ pub ruleset kinds = (kind_k, kind_c, kind_code)
 
 pub sense_x : (s : List ℕ) → length s ≡ 1 → get_or s 0 0 ≡ 88 → sense s ≡ Some sensed.Failed
 unfolding sense
-sense_x [] h k = absurd (omega arith)
-sense_x (a ∷ []) h k = rw (eq-eqb a 88 k)
-sense_x (a ∷ b ∷ s) h k = absurd (omega arith)
+sense_x s h k = ap sense (one_byte s 88 h k)
 
 pub sense_dash : (s : List ℕ) → length s ≡ 1 → get_or s 0 0 ≡ 45 → sense s ≡ Some sensed.None
 unfolding sense
-sense_dash [] h k = absurd (omega arith)
-sense_dash (a ∷ []) h k = rw k
-sense_dash (a ∷ b ∷ s) h k = absurd (omega arith)
+sense_dash s h k = ap sense (one_byte s 45 h k)
 
 pub sense_number : (s : List ℕ) → (length s ≡ 1 → get_or s 0 0 ≡ 88 → ⊥) → (length s ≡ 1 → get_or s 0 0 ≡ 45 → ⊥) → sense s ≡ option_and_then byte_sense (number s)
 unfolding sense number
