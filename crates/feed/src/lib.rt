@@ -10,8 +10,8 @@ mod pending;
 
 use answers::Text;
 use memchr::memchr;
-pub use output::Output;
-pub use pending::Pending;
+pub use output::{OUTPUT, Output};
+pub use pending::{INPUT, Pending};
 use replay_log::Replay;
 
 // ---- whole lines

@@ -5,10 +5,10 @@ use answers::Text;
 use std::marker::Model;
 
 // Room for those to the most lines that can be pending: an answer has at most 64 bytes, and each answered line takes at least one of 16384.
-const OUTPUT: usize = 1048576;
+pub const OUTPUT: usize = 1048576;
 
 // A buffer, and how many of its bytes are written.
-#[derive(Drop)]
+#[derive(Clone, Drop)]
 pub struct Output {
     bytes: [u8; OUTPUT],
     length: usize,

@@ -1,16 +1,19 @@
 // What is read of the log and not yet answered.
 ghost use Rattle.std.specs.Prelude.{◌≡◌, List, ℕ, [], ◌+◌, ◌≤◌, length, take, drop};
+ghost use Rattle.std.specs.Io.KnownBytes.{Consumes};
 
 use std::io::Read;
 use std::marker::Model;
 
-const INPUT: usize = 16384;
+// Bytes of the log that can be pending: what is left of one line, and a piece behind it.
+pub const INPUT: usize = 16384;
 
-// A buffer, and how many of its bytes count. (It has with `Text` and `Output` what every such struct has; what may be done with it is its own.)
-#[derive(Drop)]
+// A buffer, and how many of its bytes count. (It has with `Text` and `Output` what every such struct has; what may be done with it is its own.
+// Its parts are open: who has a piece of a log in memory puts it there, and knows which bytes are fed.)
+#[derive(Clone, Drop)]
 pub struct Pending {
-    bytes: [u8; INPUT],
-    length: usize,
+    pub bytes: [u8; INPUT],
+    pub length: usize,
 }
 
 // It is seen as those bytes.
@@ -32,10 +35,12 @@ impl Pending {
         }
     }
 
-    // A piece of the log, behind what stands there, which stays as it is. How many bytes came: 0 at the end of the input, and where the
-    // input fails, which the program has never told apart (docs/DECISIONS.md).
-    pub fn read(&mut self, input: &mut impl Read) -> usize
-        ensures { (take (length self.old) self.new ≡ self.old) × (length self.new ≡ length self.old + result) }
+    // A piece of the log, behind what stands there, which stays as it is. How many bytes came, and those that the input gave: 0 at the end of
+    // the input, with no room left, and where the input fails, which the program has never told apart (docs/DECISIONS.md).
+    #[tactic(auto, using(crate::proofs::Reading::came))]
+    pub fn read<R: Read>(&mut self, input: &mut R) -> usize
+        ensures behind { (take (length self.old) self.new ≡ self.old) × (length self.new ≡ length self.old + result) }
+        ensures came { Consumes (R.remaining input.old) (R.remaining input.new) (drop (length self.old) self.new) }
     {
         let n = input.read(&mut self.bytes[self.length..]).unwrap_or(0);
         self.length += n;
