@@ -33,7 +33,7 @@ pub fn copy(dst: &mut [u8], at: usize, src: &[u8])
 
 // (A struct for each slot is no plainer: a search reads the numbers alone, side by side, and the definitions read words. 0 is no ticket, and
 // stands in a free slot.)
-#[derive(Drop)]
+#[derive(Clone, Copy)]
 pub struct Copies {
     pub book: [u32; BOOK],
     pub store: [u8; STORE],

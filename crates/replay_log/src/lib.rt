@@ -15,14 +15,15 @@ use rows::WORDS;
 use std::marker::Model;
 use std::ops::Range;
 
-// In clauses a `Replay` is the memory of specs/Memory.antt.
-#[derive(Drop)]
+// In clauses a `Replay` is the memory of specs/Memory.antt. (Its parts are open and it can be copied: a caller may keep a state, go on from it,
+// look at its desk, or begin with any memory.)
+#[derive(Clone, Copy)]
 pub struct Replay {
-    mem: [u32; WORDS],
-    copies: Copies,
-    clock: u32,
-    mark: Unit,
-    given: u32,
+    pub mem: [u32; WORDS],
+    pub copies: Copies,
+    pub clock: u32,
+    pub mark: Unit,
+    pub given: u32,
 }
 
 impl Model for Replay {
@@ -32,6 +33,8 @@ impl Model for Replay {
     ghost Value = { Memory };
 
     ghost view = { λ r. record { words = r.mem; book = r.copies.book; store = r.copies.store; rest = the_rest r.clock r.mark r.given } };
+
+    ghost inverse = { λ m. record { mem = m.words; copies = record { book = m.book; store = m.store }; clock = m.rest.clock; mark = m.rest.mark; given = m.rest.given } };
 }
 
 // An accepted block is copied, as it stands then.
@@ -65,15 +68,15 @@ impl Replay {
     pub fn new() -> Self
         ensures { Begins result }
     {
-        let mut mem = [0u32; WORDS];
-        desk::fresh(&mut mem);
-        Replay {
-            mem,
+        let mut replay = Replay {
+            mem: [0; WORDS],
             copies: Copies::new(),
             clock: 0,
             mark: Unit(63),
             given: 0,
-        }
+        };
+        desk::fresh(&mut replay.mem);
+        replay
     }
 
     // S: a request is taken in.
