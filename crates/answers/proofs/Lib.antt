@@ -1,2 +1,3 @@
 -- What the proofs of the functions use.
+pub mod Before
 pub mod Puts

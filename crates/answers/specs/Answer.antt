@@ -1,7 +1,8 @@
 -- The line that answers a record. A byte is a number, and these are ASCII. Assumes nothing.
-use Rattle.std.specs.Prelude.{List, [], ◌∷◌, ◌++◌, ℕ, zero, suc, ◌+◌, ◌-◌, ◌/◌, ◌%◌, ℤ, pos, negsuc, if◌then◌else◌}
+use Rattle.std.specs.Prelude.{Result, Ok, Err, ◌≡◌, List, [], ◌∷◌, ◌++◌, ℕ, zero, suc, ◌+◌, ◌-◌, ◌/◌, ◌%◌, ℤ, pos, negsuc, if◌then◌else◌}
 use Rattle.board.specs.Plain.{◌=?◌, ◌<?◌, ◌≤?◌}
-use Rattle.board.specs.Answers.{Answer, refused, taken, sent, nothing, done, before, time, first, empty, handed}
+use Rattle.board.specs.declared.NoSuchUnit.{NoSuchUnit}
+use Rattle.board.specs.Answers.{Answer, unit_number, refused, taken, sent, nothing, done, before, time, first, empty, handed}
 use Rattle.answers.specs.Letters.{S}
 
 -- ---- fields
@@ -80,6 +81,12 @@ after_tabs (f ∷ fs) = (9 ∷ f) ++ after_tabs fs
 -- the answer to a record that begins with the letter
 abbrev pub print : (letter : ℕ) → Answer → List ℕ
 print letter a = letter ∷ after_tabs (said letter a)
+
+-- The text answers a freeze or a release by what was before, any value that stands for a number: a bool (`freezing_says` is its answer), or the
+-- number itself.
+abbrev pub PrintsBefore : {B : Type 0} → (stands_for : B → ℕ → Type 0) → (letter : ℕ) → Result B NoSuchUnit → (text : List ℕ) → Type 0
+PrintsBefore stands_for letter (Ok b) text = (n : ℕ) × stands_for b n × (text ≡ print letter (before n))
+PrintsBefore stands_for letter (Err why) text = text ≡ print letter (refused (unit_number why))
 
 -- the answer to a line that is not of the form: ?
 abbrev pub unclear : List ℕ

@@ -2,9 +2,9 @@
 #![tactic(auto)]
 
 ghost use Rattle.std.specs.Prelude.{◌≡◌, [], ◌∷◌};
-ghost use Rattle.board.specs.Answers.{done, time, taking_in_says, sending_says, reporting_says, aborting_says, freezing_says, handing_back_says};
+ghost use Rattle.board.specs.Answers.{done, time, taking_in_says, sending_says, reporting_says, aborting_says, handing_back_says};
 ghost use Rattle.answers.specs.Letters as letter;
-ghost use Rattle.answers.specs.Answer.{after_tabs, print, unclear, head};
+ghost use Rattle.answers.specs.Answer.{after_tabs, print, PrintsBefore, unclear, head};
 
 mod text;
 
@@ -77,18 +77,24 @@ pub fn aborting(a: Result<(), UnableToAbort>, text: &mut Text)
     line(b'A', a.map(|()| 0).map_err(u8::from), text);
 }
 
-// F
-pub fn freezing(a: Result<bool, NoSuchUnit>, text: &mut Text)
-    ensures { text.new ≡ print letter.F (freezing_says a) }
+// F. (Of any value that stands for what was before: the desk's bool, or a caller's number.)
+pub fn freezing<B: Into<u32>>(a: Result<B, NoSuchUnit>, text: &mut Text)
+    ensures { PrintsBefore B.converts letter.F a text.new }
 {
-    line(b'F', a.map(u32::from).map_err(u8::from), text);
+    match a {
+        Ok(before) => line(b'F', before.into(), text),
+        Err(why) => line(b'F', Err(u8::from(why)), text),
+    }
 }
 
 // R
-pub fn releasing(a: Result<bool, NoSuchUnit>, text: &mut Text)
-    ensures { text.new ≡ print letter.R (freezing_says a) }
+pub fn releasing<B: Into<u32>>(a: Result<B, NoSuchUnit>, text: &mut Text)
+    ensures { PrintsBefore B.converts letter.R a text.new }
 {
-    line(b'R', a.map(u32::from).map_err(u8::from), text);
+    match a {
+        Ok(before) => line(b'R', before.into(), text),
+        Err(why) => line(b'R', Err(u8::from(why)), text),
+    }
 }
 
 // T

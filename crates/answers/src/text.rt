@@ -9,7 +9,7 @@ use std::marker::Model;
 
 // 64 bytes, more than the longest line has, and how many of them are written. (So room is asked for where a part is written, and never
 // tested.)
-#[derive(Drop)]
+#[derive(Clone, Drop)]
 pub struct Text {
     bytes: [u8; 64],
     length: usize,

@@ -8,6 +8,7 @@ use Rattle.board.proofs.Numbers.{freeze_numbered, release_numbered}
 use Rattle.desk.proofs.Views.{does_as}
 use Rattle.lines.specs.Record as record_of
 use Rattle.answers.specs.Letters.{N, E, A, F, R, T, B}
+use Rattle.answers.proofs.Before.{prints_bool}
 use Rattle.replay_log.specs.Replay.{respond}
 use Rattle.replay_log.proofs.Replying.{plainly, stays, as_read, neither_sending, neither_reporting, neither_aborting, neither_freezing, neither_time, neither_done}
 use Rattle.replay_log.proofs.Replay.answer_line.Goals as goal
@@ -37,13 +38,13 @@ pub returns-in-Freeze : goal.returns-in-Freeze
 unfolding respond
 returns-in-Freeze c = rw (← c.self-in-Freeze.view_is)
     (as_read c.parse_line.ensures refl (ap result_ok c.in-Ok.is ∙ ap Some c.in-Freeze.is)
-    (plainly _ _ _ _ _ _ (record_of.freeze _) F (call.freeze (the_unit _)) _ _ (does_as (call.freeze c.from.result) (call.freeze (the_unit _)) (freeze_numbered _ _ c.from.ensures) (c.freeze.ensures.does _)) (λ st. refl) (neither_freezing c.freeze.result) c.freezing.ensures))
+    (plainly _ _ _ _ _ _ (record_of.freeze _) F (call.freeze (the_unit _)) _ _ (does_as (call.freeze c.from.result) (call.freeze (the_unit _)) (freeze_numbered _ _ c.from.ensures) (c.freeze.ensures.does _)) (λ st. refl) (neither_freezing c.freeze.result) (prints_bool F c.freeze.result _ c.freezing.ensures)))
 
 pub returns-in-Release : goal.returns-in-Release
 unfolding respond
 returns-in-Release c = rw (← c.self-in-Release.view_is)
     (as_read c.parse_line.ensures refl (ap result_ok c.in-Ok.is ∙ ap Some c.in-Release.is)
-    (plainly _ _ _ _ _ _ (record_of.release _) R (call.release (the_unit _)) _ _ (does_as (call.release c.from-in-Release.result) (call.release (the_unit _)) (release_numbered _ _ c.from-in-Release.ensures) (c.release.ensures.does _)) (λ st. refl) (neither_freezing c.release.result) c.releasing.ensures))
+    (plainly _ _ _ _ _ _ (record_of.release _) R (call.release (the_unit _)) _ _ (does_as (call.release c.from-in-Release.result) (call.release (the_unit _)) (release_numbered _ _ c.from-in-Release.ensures) (c.release.ensures.does _)) (λ st. refl) (neither_freezing c.release.result) (prints_bool R c.release.result _ c.releasing.ensures)))
 
 pub returns-in-Tick : goal.returns-in-Tick
 unfolding respond
