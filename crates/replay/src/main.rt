@@ -1,7 +1,7 @@
 // The replay program: a log from standard input, its answers to standard output. It only moves bytes. What is answered, and what
 // stands over from one read to the next, is `feed`'s; `run` is proved to hand it one piece after the other as `Through` asks
-// (crates/feed/specs/Feeding.antt), so that by `WholeLog` what is written is the replay of what is read. A piece is answered before the
-// next one is read: a log can be piped in live.
+// (crates/feed/specs/Feeding.antt), so that by `WholeLog` what is written is the replay of what is read. (That the answers are written, in
+// this order, no contract says: it is read here.) A piece is answered before the next one is read: a log can be piped in live.
 #![tactic(auto)]
 
 ghost use Rattle.std.specs.Prelude.{◌≡◌, []};
@@ -45,10 +45,10 @@ fn write_head(output: &mut impl Write) -> io::Result<()> {
 
 // The head line, the answers to the log, and at its end a last line that has no line feed.
 fn answer_log(input: &mut impl Read, output: &mut impl Write) -> io::Result<()> {
-    write_head(output)?;
+    let mut out = Output::new();
     let mut replay = Replay::new();
     let mut pending = Pending::new();
-    let mut out = Output::new();
+    write_head(output)?;
     run(input, output, &mut replay, &mut pending, &mut out)?;
     feed::finish(&pending, &mut replay, &mut out);
     output.write_all(out.as_slice())
