@@ -166,7 +166,7 @@ refuses m s given n e = record {
 }
 
 -- checks 1 to 8: one of them applies
-block_refuses : (m : List ℕ) (t : Ticket) (s : List ℕ) (given n : ℕ) → examined t s ≡ checked.refused n → TakesIn m m s (with_status n s) given given (refused n)
+pub block_refuses : (m : List ℕ) (t : Ticket) (s : List ℕ) (given n : ℕ) → examined t s ≡ checked.refused n → TakesIn m m s (with_status n s) given given (refused n)
 block_refuses m t s given n e = refuses m s given n (λ clock mark v. block_verdict (view m (the_rest clock mark given)) t s n e)
 
 -- as the caller is told of it
@@ -194,7 +194,7 @@ module _ (m : List ℕ) (t : Ticket) (s : List ℕ) (q : Request) (front : Bool)
   ticket_refuses h l = refuses m s given 0x05 (λ clock mark v. words_verdict false true _ (the_rest clock mark given) v h (when_at_most l) refl)
 
   -- check 11 applies
-  places_refuse : held_to 32 m q.address ≡ false → given < last_ticket → as_place (head m 0) ≡ None → TakesIn m m s (with_status 0x05 s) given given (refused 0x05)
+  pub places_refuse : held_to 32 m q.address ≡ false → given < last_ticket → as_place (head m 0) ≡ None → TakesIn m m s (with_status 0x05 s) given given (refused 0x05)
   places_refuse h l f =
       refuses m s given 0x05
       (λ clock mark v. words_verdict false false true (the_rest clock mark given) v h (unless_at_most l) (when_at_most (none_free m (the_rest clock mark given) v f)))
