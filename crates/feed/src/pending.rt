@@ -9,7 +9,7 @@ use std::marker::Model;
 pub const INPUT: usize = 16384;
 
 // A buffer, and how many of its bytes count. (It has with `Text` and `Output` what every such struct has; what may be done with it is its own.
-// Its parts are open: who has a piece of a log in memory puts it there, and knows which bytes are fed.)
+// Its parts are open, so who has a piece of a log in memory knows which bytes are fed.)
 #[derive(Clone, Drop)]
 pub struct Pending {
     pub bytes: [u8; INPUT],
@@ -35,8 +35,18 @@ impl Pending {
         }
     }
 
-    // A piece of the log, behind what stands there, which stays as it is. How many bytes came, and those that the input gave: 0 at the end of
-    // the input, with no room left, and where the input fails, which the program has never told apart (docs/DECISIONS.md).
+    // The first `end` of these bytes, or all of them: for who has a piece of a log in memory.
+    pub fn of(bytes: [u8; INPUT], end: usize) -> Pending
+        ensures { result ≡ take end bytes }
+    {
+        Pending {
+            bytes,
+            length: end.min(INPUT),
+        }
+    }
+
+    // A piece of the log, behind what stands there, which stays as it is. Answers how many bytes came; they are the input's next ones. 0 at
+    // the end of the input, with no room left, and where the input fails, which the program has never told apart (docs/DECISIONS.md).
     #[tactic(auto, using(crate::proofs::Reading::came))]
     pub fn read<R: Read>(&mut self, input: &mut R) -> usize
         ensures behind { (take (length self.old) self.new ≡ self.old) × (length self.new ≡ length self.old + result) }
