@@ -82,8 +82,8 @@ after_tabs (f ∷ fs) = (9 ∷ f) ++ after_tabs fs
 abbrev pub print : (letter : ℕ) → Answer → List ℕ
 print letter a = letter ∷ after_tabs (said letter a)
 
--- The text answers a freeze or a release by what was before, any value that stands for a number: a bool (`freezing_says` is its answer), or the
--- number itself.
+-- the line that answers a freeze or a release: what was before is any value that stands for a number, a bool (then it is the line of
+-- `freezing_says`, by `prints_bool`) or the number itself
 abbrev pub PrintsBefore : {B : Type 0} → (stands_for : B → ℕ → Type 0) → (letter : ℕ) → Result B NoSuchUnit → (text : List ℕ) → Type 0
 PrintsBefore stands_for letter (Ok b) text = (n : ℕ) × stands_for b n × (text ≡ print letter (before n))
 PrintsBefore stands_for letter (Err why) text = text ≡ print letter (refused (unit_number why))

@@ -63,7 +63,7 @@ pub fn sending(a: Sending, text: &mut Text)
     text.push(b'\n');
 }
 
-// E. (From here on some differ in the letter alone: each is `line` with what it promises.)
+// E. (From here on some differ in the letter alone: each is a call or two of `line`.)
 pub fn reporting(a: Result<(), Unreported>, text: &mut Text)
     ensures { text.new ≡ print letter.E (reporting_says a) }
 {

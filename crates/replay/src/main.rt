@@ -43,7 +43,8 @@ fn write_head(output: &mut impl Write) -> io::Result<()> {
     output.write_all(text.as_slice())
 }
 
-// The head line, the answers to the log, and at its end a last line that has no line feed.
+// The head line, the answers to the log, and at its end a last line that has no line feed. (The buffers are made before anything is
+// written: else they are cleared twice.)
 fn answer_log(input: &mut impl Read, output: &mut impl Write) -> io::Result<()> {
     let mut out = Output::new();
     let mut replay = Replay::new();
